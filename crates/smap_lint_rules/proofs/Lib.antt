@@ -1,5 +1,4 @@
 pub mod WalkLemmas
-pub mod WidthLemmas
 pub mod ShareLemmas
 pub mod ContentLemmas
 pub mod IdLemmas

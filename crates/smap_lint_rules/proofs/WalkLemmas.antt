@@ -10,7 +10,6 @@ use Rattle.std.proofs.lemmas.Option.{get_or_from_slice_get, slice_get_within, sl
 use Rattle.std.proofs.lemmas.List.Filters.{length-filter_more, length-filter_both}
 use Rattle.std.proofs.lemmas.List.Sums.{sum_by-append}
 use Rattle.std.proofs.lemmas.List.{take_more, take_rest}
-use Rattle.smap_lint_rules.specs.Texts.{has_separator, starts_separator}
 
 pub drop_at : {X : Type 0} (xs : List X) (i : ℕ) (x : X) → slice_get xs i ≡ Some x
     → drop i xs ≡ x ∷ drop (i + 1) xs
@@ -38,20 +37,6 @@ find_cons p x xs = refl
 pub find_next : {X : Type 0} (p : X → Bool) (xs : List X) (i : ℕ) (x : X) → slice_get xs i ≡ Some x
     → find p (drop i xs) ≡ cond (p x) (Some x) (find p (drop (i + 1) xs))
 find_next p xs i x e = rw (drop_at xs i x e) (find_cons p x (drop (i + 1) xs))
-
-pub separator_cons : (b : ℕ) (rest : List ℕ) → starts_separator (b ∷ rest) ≡ false
-    → has_separator (b ∷ rest) ≡ has_separator rest
-separator_cons b rest e = rw e refl
-
-separator_next : (text : List ℕ) (i : ℕ) → i < length text → starts_separator (drop i text) ≡ false
-    → has_separator (drop i text) ≡ has_separator (drop (i + 1) text)
-separator_next text i h e = let d = drop-cons text i 0 h in
-    rw (add-one i, d) (separator_cons (get_or text i 0) (drop (suc i) text) (rw (← d) e))
-
-pub separator_later : (text : List ℕ) (i : ℕ) → i < length text
-    → starts_separator (take (length text - i) (drop i text)) ≡ false
-    → has_separator (drop i text) ≡ has_separator (drop (i + 1) text)
-separator_later text i h e = separator_next text i h (rw (take_rest text i) at e)
 
 pub min_next : (a b c m : ℕ) → min (min (a + b) m + c) m ≡ min (a + (b + c)) m
 min_next a b c m = omega arith

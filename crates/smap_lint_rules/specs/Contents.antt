@@ -2,8 +2,7 @@
 use Rattle.std.specs.Prelude.{◌≡◌, ℕ, not, Bool, false, cond, List, map, Option, None, Some, option_map}
 use Rattle.std.specs.Option.{option_map_or}
 use Rattle.smap_record.specs.Record.{Entry, Origin, Mapping, ReadMap, record_of}
-use Rattle.smap_lint_rules.specs.Texts.{has_separator}
-use Rattle.smap_lint_rules.specs.Widths.{line_widths, is_within}
+use Rattle.smap_mappings.specs.Widths.{has_separator, line_widths, is_within}
 use Rattle.smap_lint_rules.specs.declared.contents.Widths.{Widths}
 
 -- How wide the lines of a content are; none where they can't be told, since it has a U+2028 or a U+2029.

@@ -1,4 +1,3 @@
-pub mod Widths
 pub mod Texts
 pub mod Paths
 pub mod Positions

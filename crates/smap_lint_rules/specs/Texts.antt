@@ -1,5 +1,5 @@
 -- Texts that are the same but for how their lines end.
-use Rattle.std.specs.Prelude.{ℕ, ◌==◌, ◌&&◌, ◌||◌, not, Bool, false, cond, List, [], ◌∷◌, filter, bytes_eq}
+use Rattle.std.specs.Prelude.{ℕ, ◌==◌, ◌&&◌, not, Bool, cond, List, ◌∷◌, filter, bytes_eq}
 
 -- without the byte order mark EF BB BF before it
 abbrev pub unmarked : List ℕ → List ℕ
@@ -12,13 +12,3 @@ normal text = filter (λ b. not (b == 13)) (unmarked text)
 
 abbrev pub same_text : List ℕ → List ℕ → Bool
 same_text one other = bytes_eq (normal one) (normal other)
-
--- E2 80 and A8 or A9: U+2028 or U+2029
-abbrev pub starts_separator : List ℕ → Bool
-starts_separator (a ∷ b ∷ c ∷ rest) = a == 226 && b == 128 && (c == 168 || c == 169)
-starts_separator text = false
-
--- some end of a text begins so
-abbrev pub has_separator : List ℕ → Bool
-has_separator [] = false
-has_separator (b ∷ rest) = starts_separator (b ∷ rest) || has_separator rest

@@ -6,8 +6,7 @@ ghost use Rattle.smap_lint_rules.specs.Contents.{AreWidths};
 ghost use Rattle.smap_record.specs.Record.{record_of};
 
 use crate::positions::counted;
-use crate::texts::has_separator;
-use crate::widths::{is_within, line_widths};
+use smap_mappings::{has_separator, is_within, line_widths};
 use smap_record::{OriginalView, SourceMap};
 use std::alloc::{AllocError, Global};
 

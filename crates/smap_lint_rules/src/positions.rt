@@ -2,8 +2,7 @@
 ghost use Rattle.std.specs.Prelude.{◌≡◌, ◌+◌, ◌^◌, ◌<◌, if◌then◌else◌, length, filter, find};
 ghost use Rattle.smap_lint_rules.specs.Positions as spec;
 
-use crate::widths::is_within;
-use smap_mappings::Token;
+use smap_mappings::{Token, is_within};
 use smap_record::SourceMap;
 
 /// Whether a mapping begins where a script whose lines are so wide has no position.

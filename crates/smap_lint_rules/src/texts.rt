@@ -46,25 +46,3 @@ pub fn same_text(alloc: Global, normal: &[u8], other: &[u8]) -> Result<bool, All
     let other = normal_text(alloc, other)?;
     Ok(normal == other.as_slice())
 }
-
-/// Whether a text begins with U+2028 or U+2029.
-fn starts_separator(text: &[u8]) -> bool
-    ensures { result ≡ spec.starts_separator text.now }
-{
-    match text {
-        [0xe2, 0x80, 0xa8 | 0xa9, ..] => true,
-        _ => false,
-    }
-}
-
-/// Whether U+2028 or U+2029 is in a text: few tools agree on whether a line ends there.
-pub fn has_separator(text: &[u8]) -> bool
-    ensures { result ≡ spec.has_separator text.now }
-{
-    for i in 0..text.len() {
-        if starts_separator(&text[i..]) {
-            return true;
-        }
-    }
-    false
-}

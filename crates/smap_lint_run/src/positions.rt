@@ -3,8 +3,9 @@ use crate::case::Case;
 use crate::wording::{counted, one_or_more, some_of};
 use smap_lint_rules::{
     Check, content_widths, count_originals_past_end, count_past_end, first_original_past_end,
-    first_past_end, has_separator, line_widths, mapped_units, unit_count,
+    first_past_end, mapped_units, unit_count,
 };
+use smap_mappings::script_widths;
 use smap_record::SourceMap;
 use std::alloc::AllocError;
 
@@ -52,10 +53,9 @@ impl Case<'_, '_> {
         let Some(script) = self.script else {
             return Ok(());
         };
-        if has_separator(script.text) || std::str::from_utf8(script.text).is_err() {
+        let Some(widths) = script_widths(self.book.alloc, script.text)? else {
             return Ok(());
-        }
-        let widths = line_widths(self.book.alloc, script.text)?;
+        };
         self.add_generated(map, &widths)?;
         self.add_few(map, &widths)
     }

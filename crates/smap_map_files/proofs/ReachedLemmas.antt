@@ -10,10 +10,11 @@ use Rattle.smap_map_files.specs.declared.loading.Content.TheVariants as content
 use Rattle.smap_map_files.specs.declared.loading.Loaded.{Loaded}
 use Rattle.smap_map_files.specs.declared.loading.Loaded.TheVariants as loaded
 use Rattle.smap_map_files.specs.declared.loading.MapFault.{MapFault}
-use Rattle.smap_map_files.specs.Given.{Folder, Holds, IsContent, IsLoaded, IsRead, Names}
-use Rattle.smap_map_files.specs.Given.{NamesNothing}
-use Rattle.smap_map_files.specs.Given.{NamesUnfound, folder_for, linked_base}
-use Rattle.smap_map_files.specs.Opened.{GivesNone, IsFollowedUp, IsLeftOut, IsLink, IsOpened, IsReached}
+use Rattle.smap_map_files.specs.Given.{Folder, Holds, IsContent, IsLoaded, IsLoadedTo, IsRead, IsReadTo}
+use Rattle.smap_map_files.specs.Given.{IsUnread, Names, NamesNothing, NamesUnfound}
+use Rattle.smap_map_files.specs.Given.{ended_loaded, ends_of, folder_for, linked_base}
+use Rattle.smap_map_files.specs.Opened.{AreEnds, AreBeside, GivesNone, IsFollowedUp, IsLeftOut, IsLink, IsOpened}
+use Rattle.smap_map_files.specs.Opened.{IsReached}
 use Rattle.smap_map_files.specs.Opened.{may_lie_beside, script_beside, with_base, within_base}
 
 -- ---- what became of a file
@@ -27,6 +28,31 @@ pub held_bytes : (held : Held) (place : MapPlace) (bytes : Vec ℕ)
     → IsMadeOf IsContent held place (content.Bytes bytes) → IsHeld held place.file bytes.items
 held_bytes None place bytes made = tt
 held_bytes (Some held) place bytes made = made
+
+-- ---- where a map ends
+
+read_whole : (most : ℕ) (url bytes : List ℕ) (it : Loaded) → IsRead most url bytes it
+    → IsReadTo most url bytes None it
+read_whole most url bytes (loaded.Map m) read = (m, (read, refl))
+read_whole most url bytes (loaded.Broken e) read = read
+
+pub read_to : (most : ℕ) (url bytes : List ℕ) (ends : Option (List ℕ)) (it new : Loaded)
+    → IsRead most url bytes it → new ≡ ended_loaded ends it → IsReadTo most url bytes ends new
+read_to most url bytes ends (loaded.Map m) new read e = rw e (m, (read, refl))
+read_to most url bytes ends (loaded.Broken fault) new read e = rw e read
+
+still_unread : (ends : Option (List ℕ)) (it new : Loaded) → IsUnread it → new ≡ ended_loaded ends it
+    → IsUnread new
+still_unread ends (loaded.Map m) new unread e = elim unread [ ]
+still_unread ends (loaded.Broken fault) new unread e = rw e unread
+
+pub loaded_to : (most : ℕ) (ends : Option (List ℕ)) (held : Held) (place : MapPlace) (it new : Loaded)
+    → IsMadeOf (IsLoaded most) held place it → new ≡ ended_loaded ends it
+    → IsMadeOf (IsLoadedTo most ends) held place new
+loaded_to most ends None place it new made e = tt
+loaded_to most ends (Some held) place it new (inl unread) e = inl (still_unread ends it new unread e)
+loaded_to most ends (Some held) place it new (inr made) e =
+    inr (made.0, made.1, read_to most place.base made.0 ends it new made.2 e)
 
 -- ---- what was reached
 
@@ -43,41 +69,67 @@ reached_itself most None root has_base place text it is read = tt
 reached_itself most (Some held) root has_base place text it is read = inr (inr (record {
   base = place.base;
   bytes = text;
-  gives = inl (is, refl);
-  read = read;
+  ends = None;
+  gives = inl ((is, refl), refl);
+  read = read_whole most place.base text it read;
 }))
 
 pub reached_within : (most : ℕ) (held : Held) (root : Option Folder) (has_base : Bool) (place : MapPlace)
-    (text bytes : List ℕ) (it : Loaded) → IsHeld held place.file text → Holds place.file text bytes
-    → IsRead most (within_base has_base place) bytes it → IsFollowedUp most held root has_base place it
-reached_within most None root has_base place text bytes it is holds read = tt
-reached_within most (Some held) root has_base place text bytes it is holds read = inr (inr (record {
+    (text bytes : List ℕ) (ends : Option (List ℕ)) (it : Loaded) → IsHeld held place.file text
+    → Holds place.file text bytes → ends ≡ ends_of root place.file text
+    → IsReadTo most (within_base has_base place) bytes ends it → IsFollowedUp most held root has_base place it
+reached_within most None root has_base place text bytes ends it is holds w read = tt
+reached_within most (Some held) root has_base place text bytes ends it is holds w read = inr (inr (record {
   base = within_base has_base place;
   bytes = bytes;
-  gives = inr (inl (record { text = text; held_is = is; holds = holds; base_is = refl }));
+  ends = ends;
+  gives = inr (inl (record { text = text; held_is = is; holds = holds; base_is = refl; ends_are = w }));
   read = read;
 }))
 
 pub reached_beside : (most : ℕ) (held : Held) (root : Option Folder) (has_base : Bool)
-    (place found : MapPlace) (text : List ℕ) (it : Loaded) → IsHeld held place.file text
-    → (names : Names (folder_for root place) place.file text found.file)
-    → found.base ≡ linked_base place names.url
-    → IsMadeOf (IsLoaded most) held (with_base has_base place.base found) it
+    (place found : MapPlace) (text : List ℕ) (ends : Option (List ℕ)) (it : Loaded)
+    → IsHeld held place.file text → (names : Names (folder_for root place) place.file text found.file)
+    → found.base ≡ linked_base place names.url → ends ≡ ends_of root place.file text
+    → IsMadeOf (IsLoadedTo most ends) held (with_base has_base place.base found) it
     → IsFollowedUp most held root has_base place it
-reached_beside most None root has_base place found text it is names own made = tt
-reached_beside most (Some held) root has_base place found text it is names own (inl unread) = inl unread
-reached_beside most (Some held) root has_base place found text it is names own (inr made) = inr (inr (record {
-  base = cond has_base place.base found.base;
-  bytes = made.0;
-  gives = inr (inr (record {
-    text = text;
-    held_is = is;
-    file = found.file;
-    names = names;
-    bytes_are = made.1;
-    base_is = ap (cond has_base place.base) own;
-  }));
-  read = made.2;
+reached_beside most None root has_base place found text ends it is names own w made = tt
+reached_beside most (Some held) root has_base place found text ends it is names own w (inl unread) = inl unread
+reached_beside most (Some held) root has_base place found text ends it is names own w (inr made) =
+    inr (inr (record {
+      base = cond has_base place.base found.base;
+      bytes = made.0;
+      ends = ends;
+      gives = inr (inr (record {
+        text = text;
+        held_is = is;
+        file = found.file;
+        names = names;
+        bytes_are = made.1;
+        base_is = ap (cond has_base place.base) own;
+        ends_are = w;
+      }));
+      read = made.2;
+    }))
+
+pub reached_ended : (most : ℕ) (held : Held) (root : Option Folder) (has_base : Bool) (place : MapPlace)
+    (text : List ℕ) (ends : Option (List ℕ)) (it : Loaded) → IsHeld held place.file text
+    → AreEnds held root place ends → IsReadTo most place.base text ends it
+    → IsReached most held root has_base place it
+reached_ended most None root has_base place text ends it is are read = tt
+reached_ended most (Some held) root has_base place text ends it is (inl none) read = inr (inr (record {
+  base = place.base;
+  bytes = text;
+  ends = ends;
+  gives = inl (inl ((is, refl), none));
+  read = read;
+}))
+reached_ended most (Some held) root has_base place text ends it is (inr are) read = inr (inr (record {
+  base = place.base;
+  bytes = text;
+  ends = ends;
+  gives = inr (inl ((is, refl), are));
+  read = read;
 }))
 
 pub reached_link : (most : ℕ) (held : Held) (root : Option Folder) (has_base : Bool) (place : MapPlace)
@@ -102,6 +154,7 @@ reached_itself_by most (Some held) root has_base place it (inr (inl unlinked)) =
 reached_itself_by most (Some held) root has_base place it (inr (inr given)) = inr (inr (record {
   base = given.base;
   bytes = given.bytes;
+  ends = given.ends;
   gives = inl given.gives;
   read = given.read;
 }))
@@ -121,7 +174,8 @@ reached_by_script most (Some held) root has_base place it lies (inr (inl unlinke
 reached_by_script most (Some held) root has_base place it lies (inr (inr given)) = inr (inr (record {
   base = given.base;
   bytes = given.bytes;
-  gives = inr (lies, given.gives);
+  ends = given.ends;
+  gives = inr (inr (lies, given.gives));
   read = given.read;
 }))
 
@@ -195,3 +249,15 @@ pub if_some : {A E : Type 0} (Q : Type 0) {R S : A → Type 0} (result : Result 
 if_some Q (Ok (Some a)) f p = f a p
 if_some Q (Ok None) f p = tt
 if_some Q (Err e) f p = tt
+
+-- the lines of a script next to a map
+pub ends_beside : (held : Held) (root home : Option Folder) (place script : MapPlace) (text : List ℕ)
+    (ends : Option (List ℕ)) → may_lie_beside root place ≡ true → script ≡ script_beside place → home ≡ root
+    → IsHeld held script.file text → ends ≡ ends_of home script.file text → AreEnds held root place ends
+ends_beside None root home place script text ends lies s r is e = tt
+ends_beside (Some held) root home place script text ends lies s r is e = inr (record {
+  lies = lies;
+  text = text;
+  held_is = rw s at is;
+  ends_are = rw (r, s) at e;
+})

@@ -10,7 +10,9 @@ use Rattle.std.specs.Str.{is_utf8}
 use Rattle.url.specs.Parser.{parse_url}
 use Rattle.url.specs.Parts.{Parts}
 use Rattle.smap_link.specs.Inline.{is_data}
-use Rattle.smap_link.specs.Kinds.{link_in}
+use Rattle.smap_link.specs.Kinds.{file_kind, link_in}
+use Rattle.smap_link.specs.declared.kinds.FileKind.{FileKind}
+use Rattle.smap_link.specs.declared.kinds.FileKind.TheVariants.{Script, StyleSheet, Map, Other}
 use Rattle.smap_link.specs.Paths.{bare}
 use Rattle.smap_link.specs.Resolved.{resolved}
 use Rattle.smap_link.specs.Urls.{is_slash}
@@ -18,6 +20,8 @@ use Rattle.smap_link.specs.declared.resolve.LinkFault.{LinkFault}
 use Rattle.smap_map_choice.specs.Linked.{linked}
 use Rattle.smap_map_choice.specs.Named.{IsGarbled, IsInline, is_vain}
 use Rattle.smap_map_choice.specs.Places.{MapPlace, below}
+use Rattle.smap_mappings.specs.Widths.{script_widths}
+use Rattle.smap_record.specs.Ends.{ended_map}
 use Rattle.smap_record.specs.Faults.{Checked}
 use Rattle.smap_record.specs.Record.{ReadMap, usual}
 use Rattle.smap_record.specs.UrlBytes.{reading_within}
@@ -51,6 +55,22 @@ abbrev pub IsRead : ℕ → List ℕ → List ℕ → Loaded → Type 0
 IsRead most url bytes (loaded.Map m) = IsReading most url bytes (Ok (Some m))
 IsRead most url bytes (loaded.Broken e) = IsFault most url bytes e
 
+-- A map as that of a script whose lines are so wide, if that is known.
+abbrev pub ended_by : Option (List ℕ) → ReadMap → ReadMap
+ended_by None m = m
+ended_by (Some widths) m = ended_map widths m
+
+abbrev pub ended_loaded : Option (List ℕ) → Loaded → Loaded
+ended_loaded ends (loaded.Map m) = loaded.Map (ended_by ends m)
+ended_loaded ends (loaded.Broken e) = loaded.Broken e
+
+-- What became of these bytes: the map that they are, ended where the lines of its script are if that is known,
+-- or what is wrong with them.
+abbrev pub IsReadTo : ℕ → List ℕ → List ℕ → Option (List ℕ) → Loaded → Type 0
+IsReadTo most url bytes ends (loaded.Map m) =
+    (whole : ReadMap) × (IsReading most url bytes (Ok (Some whole)) × (m ≡ ended_by ends whole))
+IsReadTo most url bytes ends (loaded.Broken e) = IsFault most url bytes e
+
 abbrev pub IsUnreadBy : MapFault → Type 0
 IsUnreadBy fault.Unread = ⊤
 IsUnreadBy fault.TooLong = ⊤
@@ -69,6 +89,11 @@ IsUnread (loaded.Broken e) = IsUnreadBy e
 abbrev pub IsLoaded : ℕ → (List ℕ → Option (List ℕ)) → MapPlace → Loaded → Type 0
 IsLoaded most held place it =
     IsUnread it ⊎ ((bytes : List ℕ) × (held place.file ≡ Some bytes) × IsRead most place.base bytes it)
+
+-- The same, ended so.
+abbrev pub IsLoadedTo : ℕ → Option (List ℕ) → (List ℕ → Option (List ℕ)) → MapPlace → Loaded → Type 0
+IsLoadedTo most ends held place it =
+    IsUnread it ⊎ ((bytes : List ℕ) × (held place.file ≡ Some bytes) × IsReadTo most place.base bytes ends it)
 
 -- What the file of a place holds: the text of a script, or other bytes; or it can't be read.
 abbrev pub IsContent : (List ℕ → Option (List ℕ)) → MapPlace → Content → Type 0
@@ -116,6 +141,18 @@ folder_path file = unwrap_or (option_map (λ split. or_root split.0) (rsplit_onc
 -- The folder of a script that is named by itself.
 abbrev pub own_folder : MapPlace → Folder
 own_folder place = record { url = folder_url (bare place.script); path = folder_path place.file }
+
+-- How wide the lines of a text are, in the units of a script's positions; those of other files aren't counted.
+abbrev pub widths_by : FileKind → List ℕ → Option (List ℕ)
+widths_by Script text = script_widths text
+widths_by StyleSheet text = None
+widths_by Map text = None
+widths_by Other text = None
+
+-- How wide the lines of a script are, if it was found in a folder: its map ends there.
+abbrev pub ends_of : Option Folder → List ℕ → List ℕ → Option (List ℕ)
+ends_of None script text = None
+ends_of (Some folder) script text = widths_by (file_kind script) text
 
 -- The folder in which a script was found, or else its own.
 abbrev pub folder_for : Option Folder → MapPlace → Folder

@@ -10,8 +10,8 @@ use Rattle.smap_map_files.specs.declared.loading.Loaded.{Loaded}
 use Rattle.smap_map_files.specs.declared.loading.Loaded.TheVariants as loaded
 use Rattle.smap_map_files.specs.declared.loading.MapFault.{MapFault}
 use Rattle.smap_map_files.specs.declared.loading.MapFault.TheVariants as fault
-use Rattle.smap_map_files.specs.Given.{Folder, Holds, IsRead, IsUnread, Names, NamesNothing, NamesUnfound}
-use Rattle.smap_map_files.specs.Given.{folder_for, linked_base}
+use Rattle.smap_map_files.specs.Given.{Folder, Holds, IsReadTo, IsUnread, Names, NamesNothing, NamesUnfound}
+use Rattle.smap_map_files.specs.Given.{ends_of, folder_for, linked_base}
 use Rattle.smap_map_files.specs.WantedView.{may_name_map}
 
 -- ---- the bytes of a map, and the URL that they are read with
@@ -34,29 +34,32 @@ with_base has_base base found =
 abbrev pub IsItself : (List ℕ → Option (List ℕ)) → MapPlace → List ℕ → List ℕ → Type 0
 IsItself held place base bytes = (held place.file ≡ Some bytes) × (base ≡ place.base)
 
--- The file of a place is a script, whose text holds them in a URL.
-pub record IsWithin (held : List ℕ → Option (List ℕ)) (has_base : Bool) (place : MapPlace)
-    (base bytes : List ℕ) : Type 0 where
+-- The file of a place is a script, whose text holds them in a URL; the map ends where that text does.
+pub record IsWithin (held : List ℕ → Option (List ℕ)) (root : Option Folder) (has_base : Bool)
+    (place : MapPlace) (base bytes : List ℕ) (ends : Option (List ℕ)) : Type 0 where
   pub text : List ℕ
   pub held_is : held place.file ≡ Some text
   pub holds : Holds place.file text bytes
   pub base_is : base ≡ within_base has_base place
+  pub ends_are : ends ≡ ends_of root place.file text
 
 -- The file of a place is a script, which names the file that holds them, seen from its folder.
 pub record IsBeside (held : List ℕ → Option (List ℕ)) (root : Option Folder) (has_base : Bool)
-    (place : MapPlace) (base bytes : List ℕ) : Type 0 where
+    (place : MapPlace) (base bytes : List ℕ) (ends : Option (List ℕ)) : Type 0 where
   pub text : List ℕ
   pub held_is : held place.file ≡ Some text
   pub file : List ℕ
   pub names : Names (folder_for root place) place.file text file
   pub bytes_are : held file ≡ Some bytes
   pub base_is : base ≡ beside_base has_base place names.url
+  pub ends_are : ends ≡ ends_of root place.file text
 
--- The bytes that the file of a place, found in this folder if in one, is, holds or names for a map, and the
--- URL for them.
-abbrev pub GivesBy : (List ℕ → Option (List ℕ)) → Option Folder → Bool → MapPlace → List ℕ → List ℕ → Type 0
-GivesBy held root has_base place base bytes = IsItself held place base bytes
-    ⊎ (IsWithin held has_base place base bytes ⊎ IsBeside held root has_base place base bytes)
+-- The bytes that the file of a place, found in this folder if in one, is, holds or names for a map, the URL for
+-- them, and where the lines of its script end, if that is a script of a folder.
+abbrev pub GivesBy : (List ℕ → Option (List ℕ)) → Option Folder → Bool → MapPlace → List ℕ → List ℕ
+    → Option (List ℕ) → Type 0
+GivesBy held root has_base place base bytes ends = (IsItself held place base bytes × (ends ≡ None))
+    ⊎ (IsWithin held root has_base place base bytes ends ⊎ IsBeside held root has_base place base bytes ends)
 
 -- A map that was found in a folder, with the name of a script or a style sheet and `.map` after it.
 abbrev pub may_lie_beside : Option Folder → MapPlace → Bool
@@ -66,18 +69,34 @@ may_lie_beside root place = is_some root && (is_map place.file && may_name_map (
 abbrev pub script_beside : MapPlace → MapPlace
 script_beside place = record { script = place.script; file = stem place.file; base = place.base }
 
+-- The lines of the script next to a map end so.
+pub record AreBeside (held : List ℕ → Option (List ℕ)) (root : Option Folder) (place : MapPlace)
+    (ends : Option (List ℕ)) : Type 0 where
+  pub lies : may_lie_beside root place ≡ true
+  pub text : List ℕ
+  pub held_is : held (stem place.file) ≡ Some text
+  pub ends_are : ends ≡ ends_of root (stem place.file) text
+
+-- That is said, or nothing, as where the script can't be read. (What a disk answers to that, no clause says.)
+abbrev pub AreEnds : Held → Option Folder → MapPlace → Option (List ℕ) → Type 0
+AreEnds None root place ends = ⊤
+AreEnds (Some held) root place ends = (ends ≡ None) ⊎ AreBeside held root place ends
+
 -- What the file of a place gives for a map: by itself; or, of a map that lies next to its script in a folder,
--- by that script, which may name another.
-abbrev pub Gives : (List ℕ → Option (List ℕ)) → Option Folder → Bool → MapPlace → List ℕ → List ℕ → Type 0
-Gives held root has_base place base bytes = GivesBy held root has_base place base bytes
-    ⊎ ((may_lie_beside root place ≡ true) × GivesBy held root has_base (script_beside place) base bytes)
+-- by that script, which may name another, and where whose lines end the map does.
+abbrev pub Gives : (List ℕ → Option (List ℕ)) → Option Folder → Bool → MapPlace → List ℕ → List ℕ
+    → Option (List ℕ) → Type 0
+Gives held root has_base place base bytes ends = GivesBy held root has_base place base bytes ends
+    ⊎ ((IsItself held place base bytes × AreBeside held root place ends)
+    ⊎ ((may_lie_beside root place ≡ true) × GivesBy held root has_base (script_beside place) base bytes ends))
 
 -- What became of bytes that are so given, where the URLs of a map's sources may take so many bytes.
-pub record IsGivenBy (most : ℕ) (Are : List ℕ → List ℕ → Type 0) (it : Loaded) : Type 0 where
+pub record IsGivenBy (most : ℕ) (Are : List ℕ → List ℕ → Option (List ℕ) → Type 0) (it : Loaded) : Type 0 where
   pub base : List ℕ
   pub bytes : List ℕ
-  pub gives : Are base bytes
-  pub read : IsRead most base bytes it
+  pub ends : Option (List ℕ)
+  pub gives : Are base bytes ends
+  pub read : IsReadTo most base bytes ends it
 
 -- ---- a map was opened
 
@@ -111,8 +130,8 @@ pub record IsUnlinked (held : List ℕ → Option (List ℕ)) (root : Option Fol
 
 -- The file of a place, or that which a script names, can't be read; the script names what can't be had; or
 -- bytes are so given for the map.
-abbrev pub IsReachedBy : ℕ → (List ℕ → Option (List ℕ)) → (List ℕ → List ℕ → Type 0) → Option Folder
-    → MapPlace → Loaded → Type 0
+abbrev pub IsReachedBy : ℕ → (List ℕ → Option (List ℕ)) → (List ℕ → List ℕ → Option (List ℕ) → Type 0)
+    → Option Folder → MapPlace → Loaded → Type 0
 IsReachedBy most held Are root place it =
     IsUnread it ⊎ (IsUnlinked held root place it ⊎ IsGivenBy most Are it)
 

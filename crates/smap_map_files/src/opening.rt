@@ -1,10 +1,11 @@
 //! The map that a file is, holds or names.
 ghost use Rattle.std.specs.Prelude.{◌≡◌, ◌<◌, ◌≤◌, cond, IfOk, IfSome, IsSome, MatchOption, None};
 ghost use Rattle.smap_system.specs.Held.{IsHeld};
-ghost use Rattle.smap_map_files.specs.Given.{IsContent, IsLoaded, IsRead};
-ghost use Rattle.smap_map_files.specs.Opened.{GivesNone, IsFollowedUp, IsLeftOut, IsLink, IsOpened};
+ghost use Rattle.smap_map_files.specs.Given as spec;
+ghost use Rattle.smap_map_files.specs.Given.{IsContent, IsLoadedTo, IsRead, IsReadTo, ended_loaded};
+ghost use Rattle.smap_map_files.specs.Opened.{AreEnds, GivesNone, IsFollowedUp, IsLeftOut, IsLink, IsOpened};
 ghost use Rattle.smap_map_files.specs.Opened.{IsReached, with_base, within_base};
-ghost use Rattle.smap_map_files.specs.SubjectView.{IsScriptBeside};
+ghost use Rattle.smap_map_files.specs.SubjectView.{IsScriptBeside, widths_in};
 ghost use Rattle.smap_map_files.specs.RootView.{folder_of};
 ghost use Rattle.smap_map_choice.specs.Opening.{IsMadeOf};
 ghost use Rattle.smap_map_choice.specs.PlaceView.{place_in};
@@ -16,7 +17,9 @@ use crate::following::{Followed, follow, inline_base};
 use crate::loading::{Content, FileStore, Loaded, MapFault, loaded_from};
 use crate::telling::{say_fault, say_of, say_used};
 use crate::wanted::may_name_map;
+use smap_link::{FileKind, file_kind};
 use smap_map_choice::{Place, Store};
+use smap_mappings::script_widths;
 use smap_record::SourceMap;
 use smap_system::{Disk, Host, Stop, printable};
 use std::alloc::{AllocError, Global};
@@ -43,6 +46,15 @@ pub struct Subject<'a> {
     pub url_bytes: usize,
 }
 
+/// What the script next to a map of a folder says of it.
+#[derive(Drop)]
+struct Beside {
+    /// The map that it names, if that can be had.
+    named: Option<(Place, Loaded)>,
+    /// How wide its lines are, if it is there and they can be counted.
+    ends: Option<Vec<usize>>,
+}
+
 /// The same place, with texts of its own.
 pub fn copied(alloc: Global, place: &Place) -> Result<Place, AllocError>
     ensures { IfOk result (λ p. place_in p ≡ place_in place.now) }
@@ -65,15 +77,51 @@ fn given_base(alloc: Global, subject: &Subject<'_>, base: Vec<u8>) -> Result<Vec
     Ok(base)
 }
 
-/// The map that stands in its script.
+/// How wide the lines of a script are that was found in a folder, if they can be counted: its map ends there.
+fn ends_of(
+    alloc: Global,
+    subject: &Subject<'_>,
+    text: &[u8],
+) -> Result<Option<Vec<usize>>, AllocError>
+    ensures { IfOk result (λ ends. widths_in ends
+        ≡ spec.ends_of (folder_of subject.now.root) subject.now.place.file.items text.now) }
+{
+    if subject.root.is_none() {
+        return Ok(None);
+    }
+    match file_kind(&subject.place.file) {
+        FileKind::Script => script_widths(alloc, text),
+        FileKind::StyleSheet | FileKind::Map | FileKind::Other => Ok(None),
+    }
+}
+
+/// What was loaded, as that of a script whose lines are so wide, if that is known.
+fn ended(
+    alloc: Global,
+    loaded: Loaded,
+    ends: &Option<Vec<usize>>,
+) -> Result<Loaded, AllocError>
+    ensures { IfOk result (λ it. it ≡ ended_loaded (widths_in ends.now) loaded) }
+{
+    let Some(widths) = ends else {
+        return Ok(loaded);
+    };
+    match loaded {
+        Loaded::Map(map) => Ok(Loaded::Map(map.ended(alloc, widths)?)),
+        Loaded::Broken(fault) => Ok(Loaded::Broken(fault)),
+    }
+}
+
+/// The map that stands in its script, whose lines are so wide, if that is known.
 fn inline_loaded<E: Eprint + AllocGlobal, D: Disk>(
     host: &Host<'_, E, D>,
     how: How,
     subject: &Subject<'_>,
     bytes: Vec<u8>,
+    ends: &Option<Vec<usize>>,
 ) -> Result<(Place, Loaded), Stop>
-    ensures { IfOk result (λ f. IsRead subject.now.url_bytes
-        (within_base subject.now.has_base (place_in subject.now.place)) bytes.items f.1) }
+    ensures { IfOk result (λ f. IsReadTo subject.now.url_bytes
+        (within_base subject.now.has_base (place_in subject.now.place)) bytes.items (widths_in ends.now) f.1) }
 {
     let alloc = host.alloc();
     say_used(host, how, subject, "inline map")?;
@@ -81,7 +129,7 @@ fn inline_loaded<E: Eprint + AllocGlobal, D: Disk>(
     let mut own = copied(alloc, &subject.place)?;
     own.base = given_base(alloc, subject, base)?;
     let loaded = loaded_from(alloc, &bytes, &own.base, subject.url_bytes, false)?;
-    Ok((own, loaded))
+    Ok((own, ended(alloc, loaded, ends)?))
 }
 
 /// What has the name of a script and names no map: the map itself, unless it is from a folder.
@@ -102,15 +150,17 @@ fn itself_loaded<E: Eprint + AllocGlobal, D: Disk>(
     Ok(Some((copied(alloc, &subject.place)?, loaded)))
 }
 
-/// The map in a file that a script names.
+/// The map in a file that a script names, whose lines are so wide, if that is known.
 fn beside_loaded<E: Eprint + AllocGlobal, D: Disk>(
     host: &Host<'_, E, D>,
     store: &mut FileStore<'_, D>,
     how: How,
     subject: &Subject<'_>,
     found: Place,
+    ends: &Option<Vec<usize>>,
 ) -> Result<(Place, Loaded), Stop>
-    ensures found { IfOk result (λ f. IsMadeOf (IsLoaded subject.now.url_bytes) (D.held store.old.disk.now)
+    ensures found { IfOk result (λ f. IsMadeOf (IsLoadedTo subject.now.url_bytes (widths_in ends.now))
+        (D.held store.old.disk.now)
         (with_base subject.now.has_base subject.now.place.base.items (place_in found)) f.1) }
     ensures held { D.held store.new.disk.now ≡ D.held store.old.disk.now }
 {
@@ -119,7 +169,7 @@ fn beside_loaded<E: Eprint + AllocGlobal, D: Disk>(
     let file = file.as_str();
     let which = format!(in alloc; "map, {file},")?;
     say_used(host, how, subject, which.as_str())?;
-    open_found(alloc, store, subject, found)
+    open_found(alloc, store, subject, found, ends)
 }
 
 /// What names a map that can't be had: it is left out if it is from a folder, and else refused.
@@ -139,15 +189,19 @@ fn wrong_loaded<E: Eprint + AllocGlobal, D: Disk>(
     Ok(Some((copied(host.alloc(), &subject.place)?, broken)))
 }
 
-/// The map that a script names, with what is said of that; none if the script is left out.
+/// The map that a script names, whose lines are so wide, if that is known; none if the script is left out. What
+/// is chosen is told.
 fn map_of_script<E: Eprint + AllocGlobal, D: Disk>(
     host: &Host<'_, E, D>,
     store: &mut FileStore<'_, D>,
     how: How,
     subject: &Subject<'_>,
     text: Vec<u8>,
+    ends: &Option<Vec<usize>>,
 ) -> Result<Option<(Place, Loaded)>, Stop>
-    requires { IsHeld (D.held store.old.disk.now) subject.now.place.file.items text.items }
+    requires held { IsHeld (D.held store.old.disk.now) subject.now.place.file.items text.items }
+    requires ends { widths_in ends.now
+        ≡ spec.ends_of (folder_of subject.now.root) subject.now.place.file.items text.items }
     ensures reached { IfOk result (λ found. MatchOption found
         (IsLeftOut (D.held store.old.disk.now) (folder_of subject.now.root) (place_in subject.now.place))
         (λ f. IsFollowedUp subject.now.url_bytes (D.held store.old.disk.now) (folder_of subject.now.root)
@@ -157,25 +211,27 @@ fn map_of_script<E: Eprint + AllocGlobal, D: Disk>(
     match follow(host, &subject.place, subject.root, &text)? {
         Followed::Inline(bytes) => {
             drop(text);
-            Ok(Some(inline_loaded(host, how, subject, bytes)?))
+            Ok(Some(inline_loaded(host, how, subject, bytes, ends)?))
         }
         Followed::File(found) => {
             drop(text);
-            Ok(Some(beside_loaded(host, store, how, subject, found)?))
+            Ok(Some(beside_loaded(host, store, how, subject, found, ends)?))
         }
         Followed::Nothing => itself_loaded(host, how, subject, text),
         Followed::Wrong(what) => wrong_loaded(host, how, subject, what),
     }
 }
 
-/// Opens the file that a script names.
+/// Opens the file that a script names, whose lines are so wide, if that is known.
 fn open_found<D: Disk>(
     alloc: Global,
     store: &mut FileStore<'_, D>,
     subject: &Subject<'_>,
     found: Place,
+    ends: &Option<Vec<usize>>,
 ) -> Result<(Place, Loaded), Stop>
-    ensures found { IfOk result (λ f. IsMadeOf (IsLoaded subject.now.url_bytes) (D.held store.old.disk.now)
+    ensures found { IfOk result (λ f. IsMadeOf (IsLoadedTo subject.now.url_bytes (widths_in ends.now))
+        (D.held store.old.disk.now)
         (with_base subject.now.has_base subject.now.place.base.items (place_in found)) f.1) }
     ensures held { D.held store.new.disk.now ≡ D.held store.old.disk.now }
 {
@@ -185,7 +241,7 @@ fn open_found<D: Disk>(
         base: given_base(alloc, subject, found.base)?,
     };
     let loaded = store.open_map(alloc, &found, subject.url_bytes)?;
-    Ok((found, loaded))
+    Ok((found, ended(alloc, loaded, ends)?))
 }
 
 /// Leaves out a script from a folder that names no map that can be read.
@@ -226,16 +282,20 @@ fn map_in<E: Eprint + AllocGlobal, D: Disk>(
     }
 }
 
-/// Takes what a file holds for a map, follows a script to its map, or says what is wrong.
+/// Takes what a file holds for a map, ended as the script next to it is, follows a script to its map, or says
+/// what is wrong.
 fn settle_content<E: Eprint + AllocGlobal, D: Disk>(
     host: &Host<'_, E, D>,
     store: &mut FileStore<'_, D>,
     how: How,
     subject: &Subject<'_>,
     content: Content,
+    ends: &Option<Vec<usize>>,
     worst: &mut u8,
 ) -> Result<Option<SourceMap>, Stop>
-    requires { IsMadeOf IsContent (D.held store.old.disk.now) (place_in subject.now.place) content }
+    requires held { IsMadeOf IsContent (D.held store.old.disk.now) (place_in subject.now.place) content }
+    requires ends { AreEnds (D.held store.old.disk.now) (folder_of subject.now.root)
+        (place_in subject.now.place) (widths_in ends.now) }
     ensures settled { IfOk result (λ found. MatchOption found
         (GivesNone subject.now.url_bytes (D.held store.old.disk.now) (folder_of subject.now.root)
         subject.now.has_base (place_in subject.now.place) worst.new)
@@ -245,13 +305,17 @@ fn settle_content<E: Eprint + AllocGlobal, D: Disk>(
     ensures held { D.held store.new.disk.now ≡ D.held store.old.disk.now }
 {
     match content {
-        Content::Script(text) => match map_of_script(host, store, how, subject, text)? {
-            Some((place, loaded)) => map_in(host, &place, loaded, worst),
-            None => Ok(None),
-        },
+        Content::Script(text) => {
+            let own = ends_of(host.alloc(), subject, &text)?;
+            match map_of_script(host, store, how, subject, text, &own)? {
+                Some((place, loaded)) => map_in(host, &place, loaded, worst),
+                None => Ok(None),
+            }
+        }
         Content::Bytes(bytes) => {
             let base = &subject.place.base;
             let loaded = loaded_from(host.alloc(), &bytes, base, subject.url_bytes, true)?;
+            let loaded = ended(host.alloc(), loaded, ends)?;
             map_in(host, &subject.place, loaded, worst)
         }
         Content::Unread(why) => map_in(host, &subject.place, Loaded::Broken(why), worst),
@@ -283,20 +347,26 @@ fn script_beside<'a>(
     }))
 }
 
-/// The map that the script next to a map of a folder names, if that can be had.
-fn named_instead<E: Eprint + AllocGlobal, D: Disk>(
+/// What the script says that lies next to a map of a folder.
+fn said_beside<E: Eprint + AllocGlobal, D: Disk>(
     host: &Host<'_, E, D>,
     store: &mut FileStore<'_, D>,
     how: How,
     subject: &Subject<'_>,
-) -> Result<Option<(Place, Loaded)>, Stop>
-    ensures reached { IfOk result (λ found. IfSome found (λ f. IsReached subject.now.url_bytes
+) -> Result<Beside, Stop>
+    ensures reached { IfOk result (λ said. IfSome said.named (λ f. IsReached subject.now.url_bytes
         (D.held store.old.disk.now) (folder_of subject.now.root) subject.now.has_base
         (place_in subject.now.place) f.1)) }
+    ensures ends { IfOk result (λ said. AreEnds (D.held store.old.disk.now) (folder_of subject.now.root)
+        (place_in subject.now.place) (widths_in said.ends)) }
     ensures held { D.held store.new.disk.now ≡ D.held store.old.disk.now }
 {
+    let nothing = Beside {
+        named: None,
+        ends: None,
+    };
     let Some(script) = script_beside(host.alloc(), subject)? else {
-        return Ok(None);
+        return Ok(nothing);
     };
     // what it leaves out is nothing to tell: the map next to it is there
     let how = How {
@@ -304,14 +374,19 @@ fn named_instead<E: Eprint + AllocGlobal, D: Disk>(
         verbose: false,
     };
     match Store::open(store, host.alloc(), &script.place) {
-        Ok(Content::Script(text)) => map_of_script(host, store, how, &script, text),
-        Ok(Content::Bytes(_) | Content::Unread(_)) => Ok(None),
+        Ok(Content::Script(text)) => {
+            let ends = ends_of(host.alloc(), &script, &text)?;
+            let named = map_of_script(host, store, how, &script, text, &ends)?;
+            Ok(Beside { named, ends })
+        }
+        Ok(Content::Bytes(_) | Content::Unread(_)) => Ok(nothing),
         Err(_) => Err(Stop::Memory),
     }
 }
 
 /// The map of a place, opened, or says what is wrong with it. Of a script it is the map that its last comment
-/// names; so it is of a map that lies next to its script in a folder, if what the script names can be had.
+/// names; so it is of a map that lies next to its script in a folder, if what the script names can be had. The
+/// map of a script of a folder ends where the lines of that do: nothing past these has an original.
 ///
 /// # Errors
 ///
@@ -331,11 +406,12 @@ pub fn open_map_of<E: Eprint + AllocGlobal, D: Disk>(
     ensures worst { worst.old ≤ worst.new }
     ensures held { D.held store.new.disk.now ≡ D.held store.old.disk.now }
 {
-    if let Some((place, loaded)) = named_instead(host, store, how, subject)? {
+    let Beside { named, ends } = said_beside(host, store, how, subject)?;
+    if let Some((place, loaded)) = named {
         return map_in(host, &place, loaded, worst);
     }
     match Store::open(store, host.alloc(), &subject.place) {
-        Ok(content) => settle_content(host, store, how, subject, content, worst),
+        Ok(content) => settle_content(host, store, how, subject, content, &ends, worst),
         Err(_) => Err(Stop::Memory),
     }
 }

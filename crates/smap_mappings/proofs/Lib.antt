@@ -19,3 +19,5 @@ pub mod ReaderLemmas
 pub mod CountLemmas
 pub mod SeparatorLemmas
 pub mod LeastLemmas
+pub mod WidthLemmas
+pub mod EndLemmas

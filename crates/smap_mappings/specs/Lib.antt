@@ -10,3 +10,5 @@ pub mod Steps
 pub mod Pieces
 pub mod Writing
 pub mod Feeding
+pub mod Widths
+pub mod Ends

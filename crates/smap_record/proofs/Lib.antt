@@ -23,3 +23,4 @@ pub mod LevelLemmas
 pub mod OneLevelLemmas
 mod Examples
 pub mod StabilityLemmas
+pub mod EndedLemmas

@@ -12,6 +12,7 @@ pub mod OneLevel
 pub mod Laws
 pub mod Fitting
 pub mod Listings
+pub mod Ends
 pub mod Results
 pub mod Views
 pub mod Resolving

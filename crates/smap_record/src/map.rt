@@ -1,15 +1,17 @@
 //! A source map that was read. Every getter takes constant time and no memory.
-ghost use Rattle.std.specs.Prelude.{◌≡◌, ◌<◌, length, slice_get, Some, IfSome, option_map};
+ghost use Rattle.std.specs.Prelude.{◌≡◌, ◌<◌, length, slice_get, Some, IfOk, IfSome, option_map};
 ghost use Rattle.smap_mappings.specs.Text.{line_count};
 ghost use Rattle.smap_record.specs.Record.{record_of, origin_of};
 ghost use Rattle.smap_record.specs.Listings.{IsListing, IsListedOriginal};
 ghost use Rattle.smap_record.specs.MapView.{listing_of};
+ghost use Rattle.smap_record.specs.Ends.{ended_map};
 ghost use Rattle.smap_record.specs.Views.{entry_of_view, origin_of_view, mapping_of_view};
 
 use crate::labels::OwnLabels;
 use crate::listing::Listing;
 use crate::view::{OriginalView, SourceView, TokenView};
-use smap_mappings::{Original, Token};
+use smap_mappings::{Original, Token, ended};
+use std::alloc::{AllocError, Global};
 use std::marker::Model;
 
 /// A source map that was read: its labels, as [`file`], its sources and names as listed, and its mappings,
@@ -56,6 +58,25 @@ impl SourceMap {
         ensures { result ≡ record { labels = labels; listing = listing_of listing } }
     {
         SourceMap { labels, listing }
+    }
+
+    /// The map, as that of a script whose lines are so wide ([`line_widths`](smap_mappings::line_widths)): what is
+    /// past the end of a line, or behind the last line, has no original. All else is as before.
+    ///
+    /// # Errors
+    ///
+    /// `AllocError`.
+    pub fn ended(self, alloc: Global, widths: &[usize]) -> Result<SourceMap, AllocError>
+        ensures { IfOk result (λ m. m ≡ ended_map widths.now self) }
+    {
+        let SourceMap { labels, listing } = self;
+        let tokens = ended(alloc, &listing.tokens, widths)?;
+        let listing = Listing {
+            sources: listing.sources,
+            names: listing.names,
+            tokens,
+        };
+        Ok(SourceMap::new(labels, listing))
     }
 
     /// The number of distinct sources: listed sources are one source if URL, content and ignored flag are

@@ -1,7 +1,8 @@
 //! Runs over files in memory, and what rules are called. What each rule finds is in
 //! `tests/rows/smap-maps-lint.rows`.
 use crate::asserted::{equal, holds};
-use smap_lint_rules::{Check, RULES, line_widths, rule_named};
+use smap_lint_rules::{Check, RULES, rule_named};
+use smap_mappings::line_widths;
 use smap_lint_run::{LintAsked, lint};
 use smap_report::Format;
 use smap_system::{Host, Watched};

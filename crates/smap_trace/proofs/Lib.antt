@@ -25,3 +25,4 @@ pub mod SoFarLemmas
 pub mod StartsLemmas
 pub mod TableLemmas
 pub mod TallyLemmas
+mod EndedLemmas

@@ -3,6 +3,7 @@ pub mod ByLength
 pub mod Counting
 pub mod Cuts
 pub mod Cutting
+pub mod Ends
 pub mod Laws
 pub mod LineParts
 pub mod LineStarts

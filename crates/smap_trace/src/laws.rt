@@ -1,4 +1,5 @@
 //! Laws about the definitions. Each is the contract of a function that does nothing.
+ghost use Rattle.smap_trace.specs.Ends.{NothingIsPast, WithinAllStays};
 ghost use Rattle.smap_trace.specs.Laws.{CutIsComputed, FramesAreFoundAnywhere, LinesAreCounted};
 ghost use Rattle.smap_trace.specs.Laws.{LookupIsComputed, OneCut, PiecesAreTheLine};
 
@@ -8,6 +9,17 @@ pub use smap_frames::laws::{frames_are_computed, one_reading};
 /// is at most one.
 pub fn lookups_are_computed()
     ensures { LookupIsComputed }
+{}
+
+/// In a map that ends where the lines of its script do ([`ended`](smap_record::SourceMap::ended)), a position of
+/// the script falls to the same mapping as in the map itself.
+pub fn within_all_stays()
+    ensures { WithinAllStays }
+{}
+
+/// In such a map, a position past the end of its line, or of the script, has no original.
+pub fn nothing_is_past()
+    ensures { NothingIsPast }
 {}
 
 /// In the table of a map's lines, the difference of a line's entry and the next one is the number of mappings

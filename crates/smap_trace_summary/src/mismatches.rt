@@ -3,10 +3,9 @@ use crate::frames::Counted;
 use indexmap::IndexMap;
 use memchr::memmem;
 use smap_link::{FileKind, file_kind, normal_form};
-use smap_lint_rules::{
-    debug_id, file_agrees, first_past_end, has_separator, line_widths, members_of, same_id,
-};
+use smap_lint_rules::{debug_id, file_agrees, members_of, same_id};
 use smap_map_finder::Finder;
+use smap_mappings::{Token, is_within, script_widths};
 use smap_record::{ReadError, SourceMap, map_tree};
 use smap_system::{Disk, FileFault, Host, Kind, LIMIT, Stop, printable, read_file};
 use std::alloc::{AllocError, Global};
@@ -103,23 +102,58 @@ fn script_file<'a, D: Disk>(disk: &D, file: &'a [u8]) -> Option<&'a str> {
     }
 }
 
-/// The text of a script whose positions can be counted.
-fn text_of<D: Disk>(alloc: Global, disk: &D, script: &str) -> Result<Option<Vec<u8>>, AllocError> {
-    match read_file(alloc, disk, script, LIMIT) {
-        Ok(text) if !has_separator(&text) && std::str::from_utf8(&text).is_ok() => Ok(Some(text)),
-        Ok(_) | Err(FileFault::Read(_) | FileFault::TooLong) => Ok(None),
-        Err(FileFault::Memory) => Err(AllocError),
+/// A script whose positions can be counted.
+#[derive(Drop)]
+struct Script {
+    text: Vec<u8>,
+    /// How wide its lines are.
+    widths: Vec<usize>,
+}
+
+/// The script in a file, if its positions can be counted.
+fn script_in<D: Disk>(alloc: Global, disk: &D, file: &str) -> Result<Option<Script>, AllocError> {
+    let text = match read_file(alloc, disk, file, LIMIT) {
+        Ok(text) => text,
+        Err(FileFault::Read(_) | FileFault::TooLong) => return Ok(None),
+        Err(FileFault::Memory) => return Err(AllocError),
+    };
+    match script_widths(alloc, &text)? {
+        Some(widths) => Ok(Some(Script { text, widths })),
+        None => Ok(None),
     }
+}
+
+/// Whether a mapping is the end of its line behind this one: the maps of folders have such ends.
+fn is_end(widths: &[usize], token: Token, before: Option<Token>) -> bool {
+    let (Some(before), Some(width)) = (before, widths.get(token.line as usize)) else {
+        return false;
+    };
+    token.original.is_none()
+        && token.column as usize == (*width).saturating_add(1)
+        && before.line == token.line
+        && before.column as usize <= *width
+}
+
+/// The first mapping past the end of a script whose lines are so wide, or of one of its lines.
+fn first_past_end(map: &SourceMap, widths: &[usize]) -> Option<Token> {
+    let mut before = None;
+    for i in 0..map.token_count() {
+        let token = map.listed_token(i);
+        if !is_within(widths, token.line, token.column) && !is_end(widths, token, before) {
+            return Some(token);
+        }
+        before = Some(token);
+    }
+    None
 }
 
 /// How a map goes on past the end of its script, in words.
 fn past_end_text(
     alloc: Global,
     map: &SourceMap,
-    text: &[u8],
+    widths: &[usize],
 ) -> Result<Option<String>, AllocError> {
-    let widths = line_widths(alloc, text)?;
-    let Some(first) = first_past_end(map, &widths) else {
+    let Some(first) = first_past_end(map, widths) else {
         return Ok(None);
     };
     let (line, column) = (u64::from(first.line) + 1, u64::from(first.column) + 1);
@@ -190,22 +224,22 @@ fn other_id_text<D: Disk>(
     Ok(Some(text))
 }
 
-/// What is strange about the map of a script with this text, in words.
+/// What is strange about the map of the script in this file, in words.
 fn strange_part<D: Disk>(
     alloc: Global,
     disk: &D,
     map: &SourceMap,
     taken: &Taken<'_, '_>,
-    script: &str,
-    text: &[u8],
+    file: &str,
+    script: &Script,
 ) -> Result<Option<String>, AllocError> {
-    if let Some(what) = past_end_text(alloc, map, text)? {
+    if let Some(what) = past_end_text(alloc, map, &script.widths)? {
         return Ok(Some(what));
     }
-    if let Some(what) = other_id_text(alloc, disk, taken.file, text)? {
+    if let Some(what) = other_id_text(alloc, disk, taken.file, &script.text)? {
         return Ok(Some(what));
     }
-    other_file_text(alloc, map, taken, script)
+    other_file_text(alloc, map, taken, file)
 }
 
 /// What is strange about a map of a script whose file is there, in words.
@@ -215,18 +249,18 @@ fn strange_text<D: Disk>(
     map: &SourceMap,
     taken: &Taken<'_, '_>,
 ) -> Result<Option<String>, AllocError> {
-    let Some(script) = script_file(disk, taken.file) else {
+    let Some(file) = script_file(disk, taken.file) else {
         return Ok(None);
     };
-    let Some(text) = text_of(alloc, disk, script)? else {
+    let Some(script) = script_in(alloc, disk, file)? else {
         return Ok(None);
     };
-    let Some(what) = strange_part(alloc, disk, map, taken, script, &text)? else {
+    let Some(what) = strange_part(alloc, disk, map, taken, file, &script)? else {
         return Ok(None);
     };
-    let script = printable(alloc, script.as_bytes())?;
-    let (script, what) = (script.as_str(), what.as_str());
-    let text = format!(in alloc; "the map of {script} {what}")?;
+    let file = printable(alloc, file.as_bytes())?;
+    let (file, what) = (file.as_str(), what.as_str());
+    let text = format!(in alloc; "the map of {file} {what}")?;
     Ok(Some(text))
 }
 

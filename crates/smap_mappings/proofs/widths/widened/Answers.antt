@@ -1,6 +1,6 @@
 use Rattle.std.proofs.Common.{rules}
-use Rattle.smap_lint_rules.proofs.WidthLemmas.{at_end, before_end}
-use Rattle.smap_lint_rules.proofs.widths.widened.Goals as goal
+use Rattle.smap_mappings.proofs.WidthLemmas.{at_end, before_end}
+use Rattle.smap_mappings.proofs.widths.widened.Goals as goal
 
 pub returns-then-not-ends_line-clause-widths : goal.returns-then-not-ends_line-clause-widths
 returns-then-not-ends_line-clause-widths c = search (rules, before_end)

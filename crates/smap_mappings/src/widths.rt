@@ -1,6 +1,6 @@
 //! The lines of a text in UTF-8, in UTF-16 units, in which maps count columns.
-ghost use Rattle.std.specs.Prelude.{◌≡◌, ◌+◌, ◌^◌, ◌<◌, ◌≤◌, ◌∷◌, IfOk};
-ghost use Rattle.smap_lint_rules.specs.Widths as spec;
+ghost use Rattle.std.specs.Prelude.{◌≡◌, ◌+◌, ◌^◌, ◌<◌, ◌≤◌, ◌∷◌, IfOk, option_map};
+ghost use Rattle.smap_mappings.specs.Widths as spec;
 
 use std::alloc::{AllocError, Global};
 
@@ -88,4 +88,51 @@ pub fn is_within(widths: &[usize], line: u32, column: u32) -> bool
         Some(width) => column as usize <= *width,
         None => false,
     }
+}
+
+/// Whether a text begins with U+2028 or U+2029.
+fn starts_separator(text: &[u8]) -> bool
+    ensures { result ≡ spec.starts_separator text.now }
+{
+    match text {
+        [0xe2, 0x80, 0xa8 | 0xa9, ..] => true,
+        _ => false,
+    }
+}
+
+/// Whether U+2028 or U+2029 is in a text: few tools agree on whether a line ends there.
+pub fn has_separator(text: &[u8]) -> bool
+    ensures { result ≡ spec.has_separator text.now }
+{
+    for i in 0..text.len() {
+        if starts_separator(&text[i..]) {
+            return true;
+        }
+    }
+    false
+}
+
+/// Whether positions of a script can be counted alike by all.
+fn is_counted(text: &[u8]) -> bool
+    ensures { result ≡ spec.is_counted text.now }
+{
+    match std::str::from_utf8(text) {
+        Ok(_) => !has_separator(text),
+        Err(_) => false,
+    }
+}
+
+/// The widths of the lines of a script, as [`line_widths`] has them; none where its positions can't be counted:
+/// it isn't UTF-8, or has U+2028 or U+2029.
+///
+/// # Errors
+///
+/// `AllocError`.
+pub fn script_widths(alloc: Global, text: &[u8]) -> Result<Option<Vec<usize>>, AllocError>
+    ensures { IfOk result (λ found. option_map (λ widths. widths.items) found ≡ spec.script_widths text.now) }
+{
+    if !is_counted(text) {
+        return Ok(None);
+    }
+    Ok(Some(line_widths(alloc, text)?))
 }

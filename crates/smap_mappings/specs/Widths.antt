@@ -1,8 +1,9 @@
 -- Lines of a text in UTF-8 and columns in UTF-16 code units (ECMA-426, section "Position types").
 use Rattle.std.specs.Prelude.{ℕ, ◌+◌, ◌==◌, ◌&&◌, ◌||◌, not, Bool, false, cond, nat_le, nat_lt, List, [], ◌∷◌}
-use Rattle.std.specs.Prelude.{◌++◌}
+use Rattle.std.specs.Prelude.{◌++◌, Option, Some, None}
 use Rattle.std.specs.List.{slice_get}
 use Rattle.std.specs.Option.{option_map_or}
+use Rattle.std.specs.Str.{is_utf8}
 
 -- The code units of the character that begins with this byte, in UTF-8; 0 for a byte within a character. Four
 -- bytes are a surrogate pair.
@@ -39,3 +40,24 @@ with_last widths width rest = widths ++ wider width rest
 -- there is such a line, and its end isn't before this column
 abbrev pub is_within : List ℕ → ℕ → ℕ → Bool
 is_within widths line column = option_map_or (λ width. nat_le column width) (slice_get widths line) false
+
+-- ---- texts whose positions can be counted
+
+-- E2 80 and A8 or A9: U+2028 or U+2029
+abbrev pub starts_separator : List ℕ → Bool
+starts_separator (a ∷ b ∷ c ∷ rest) = a == 226 && b == 128 && (c == 168 || c == 169)
+starts_separator text = false
+
+-- some end of a text begins so
+abbrev pub has_separator : List ℕ → Bool
+has_separator [] = false
+has_separator (b ∷ rest) = starts_separator (b ∷ rest) || has_separator rest
+
+-- Positions can be counted alike by all: it is UTF-8, and has neither U+2028 nor U+2029, since few tools agree
+-- on whether a line ends there.
+abbrev pub is_counted : List ℕ → Bool
+is_counted text = is_utf8 text && not (has_separator text)
+
+-- The widths of the lines of a script, if its positions can be counted.
+abbrev pub script_widths : List ℕ → Option (List ℕ)
+script_widths text = cond (is_counted text) (Some (line_widths text)) None
