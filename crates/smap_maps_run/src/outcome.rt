@@ -45,7 +45,7 @@ pub struct Refusal {
 }
 
 /// What became of a map.
-#[derive(Debug, Drop)]
+#[derive(Drop)]
 pub enum Verdict {
     /// It is a map: nothing more was asked.
     Accepted,
@@ -100,7 +100,7 @@ impl Verdict {
 }
 
 /// What became of a map, and what a rewrite of it drops and changes.
-#[derive(Debug, Drop)]
+#[derive(Drop)]
 pub struct Outcome {
     /// What became of it.
     pub verdict: Verdict,
