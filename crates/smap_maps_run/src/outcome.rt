@@ -6,7 +6,7 @@ use smap_fault_places::{Point, TextRange};
 use smap_record::Fault;
 
 /// Why a map is neither accepted nor refused, or can't be replaced.
-#[derive(Clone, Copy, Debug, PartialEq, Eq)]
+#[derive(Clone, Copy, PartialEq, Eq)]
 pub enum Failure {
     /// The file can't be read.
     Unread,
