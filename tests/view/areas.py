@@ -67,7 +67,7 @@ def folders_nest(browser, url):
 
 
 def folders_have_sizes(browser, made, url):
-    """What a folder has stands on its area, in the path above the areas and in the table; its link opens it."""
+    """What a folder has stands on its area, in the path above the areas and in the table; a link opens it."""
     sizes = dict(zip(pages.SOURCES, made["sizes"]))
     total = sum(made["sizes"])
 
@@ -89,7 +89,8 @@ def folders_have_sizes(browser, made, url):
     equal(set(rows), {"app.js", "parts/", "util/"})
     equal(rows["parts/"], told("src/parts/"))
     # the table leads on, and a link to a folder opens it
-    browser.run("[...document.querySelectorAll('td button')].find(one => one.textContent === 'parts/').click()")
+    browser.run("""
+        [...document.querySelectorAll('td button')].find(one => one.textContent === 'parts/').click();""")
     equal(browser.run("return location.hash"), "#bytes=src/parts/")
     before = browser.run(TABLE)
     open_bytes(browser, url, "#bytes=src/parts/")
@@ -118,7 +119,7 @@ def table_sorts(browser, url):
 
 
 def labels_end(browser, url):
-    """A label of an area that has no room ends with an ellipsis; one without room for five letters has none."""
+    """A label without room ends with an ellipsis; an area without room for five letters has none."""
     browser.size(700, 400)
     open_bytes(browser, url)
     cut, narrow = browser.run("""
@@ -170,7 +171,7 @@ def zooms(browser, url):
 
 
 def walks_areas(browser, url):
-    """The arrow keys go through all areas, folders too, each of which says what it is; Enter opens a folder."""
+    """The arrow keys go through all areas, of which each says what it is; Enter opens a folder."""
     open_bytes(browser, url)
     browser.run("document.querySelector('#tree > button').focus()")
     names = []
@@ -232,8 +233,8 @@ def goes_to_first(browser, made, url):
     line, column = min(at for at, place in numbers.items() if place and place[0] == own)
     open_bytes(browser, url)
     browser.run("""
-        [...document.querySelectorAll('#tree > button')].find(one => one.title.startsWith(arguments[0])).click();
-        """, pages.SOURCES[own])
+        [...document.querySelectorAll('#tree > button')]
+            .find(one => one.title.startsWith(arguments[0])).click();""", pages.SOURCES[own])
     assert status(browser).startswith(f"{line + 1}:{column + 1} to "), status(browser)
     marked = browser.run(MARKED)
     assert marked["generated"] and marked["source"], marked

@@ -20,7 +20,7 @@ REFERENCES = """
 
 
 def have_names(browser, url, refused):
-    """Each control has a name, and each part that a control names is there; so has the page, and its language."""
+    """Each control has a name, and what it refers to is there; so has the page, and a language."""
     for page, *ids in ((f"{url}#generated=4:5",), (url, "sources"), (f"{url}#bytes",), (refused,)):
         browser.open("about:blank")
         browser.open(page)
@@ -31,7 +31,8 @@ def have_names(browser, url, refused):
         equal(browser.run(REFERENCES), [])
         title, language, headings, mains = browser.run("""
             const seen = kind => [...document.querySelectorAll(kind)].filter(one => one.checkVisibility());
-            return [document.title, document.documentElement.lang, seen('h1').length, seen('main').length];""")
+            const { title, documentElement: { lang } } = document;
+            return [title, lang, seen('h1').length, seen('main').length];""")
         assert title and (language, headings, mains) == ("en", 1, 1), (title, language, headings, mains)
 
 

@@ -67,7 +67,7 @@ def shows_ends(browser, folder):
 
 
 def finds_all(browser, url):
-    """One search finds a text in the script, in names and in sources, with counts; a name leads to its mappings."""
+    """One search finds a text in the script, in names and in sources, and counts; each leads to its places."""
     browser.open("about:blank")
     browser.open(url)
     browser.press("f")

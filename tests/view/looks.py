@@ -85,7 +85,7 @@ KINDS = """
 
 
 def colours_mean_sources(browser, folder):
-    """A source has one colour, in both texts, as an area and in lists; those next to it in the script have others."""
+    """A source has one colour, in both texts, as an area and in lists, and the next one another."""
     made, count = pages.Maker(), 20
     for number in range(count):
         for row in range(3):
@@ -182,7 +182,7 @@ def fields_have_room(browser, url):
 
 
 def errors_have_room(browser, folder):
-    """On a phone the error of a refused map has all its words, and is on the screen with the place that it means."""
+    """On a phone the error of a refused map has all its words, and is on the screen with its place."""
     browser.size(390, 700)
     (folder / "cut.map").write_text('{"version":3,"sources":["a.js"],"names":["' + '","'.join(
         f"name{number}" for number in range(2000)) + '"],"mappings":"AAAA,CCAA"}')

@@ -173,7 +173,7 @@ def cuts_longest(browser, folder):
 
 
 def breaks_lines(browser, folder):
-    """A minified line is broken behind `;`, `{` and `}` for the eye alone: texts and positions stay the same."""
+    """A minified line is broken after `;`, `{` and `}` for the eye alone: positions stay the same."""
     made = pages.Maker()
     pieces = ["function f(a){", "return a+1}", "for(;;){", "g()}", "if(x)", "y();", "z=[{},{}];"] * 12
     for number, piece in enumerate(pieces):
