@@ -1,5 +1,3 @@
-pub mod Builds
-pub mod Ending
 pub mod OutputView
 pub mod Running
 pub mod Runs

@@ -1,67 +1,14 @@
 //! What is said at the end of a run: how many frames stayed, and why.
 ghost use Rattle.std.specs.Prelude.{◌≡◌};
 
-use crate::builds::differ_in_hash;
-use crate::frames::{Counted, add_missed};
-use crate::hints::hint_at_nothing;
 use crate::program::STDIN;
-use crate::summary::{Stayed, Summary};
 use crate::tracing::{Run, open_log};
-use smap_link::bare;
 use smap_logs::{Log, Names};
-use smap_map_files::{Origin, Wanted};
 use smap_system::{Disk, Stop, printable};
+use smap_trace_summary::{
+    Counted, LogForm, Stayed, Summary, add_missed, build_text, hint_at_nothing, say_mismatches,
+};
 use std::alloc::{AllocError, Global};
-
-/// The last part of a path or URL.
-fn last_part<'a>(path: &'a [u8]) -> &'a [u8] {
-    path.rsplit(|b| *b == b'/' || *b == b'\\')
-        .next()
-        .unwrap_or(path)
-}
-
-/// A file's name without `.map`.
-fn stem<'a>(name: &'a [u8]) -> &'a [u8] {
-    name.strip_suffix(b".map".as_slice()).unwrap_or(name)
-}
-
-/// The number of the folder and the file of a map whose script's name differs from this one in a hash alone.
-fn map_of_build<'w>(wanted: &'w Wanted<'_>, name: &[u8]) -> Option<(usize, &'w [u8])> {
-    for (file, root) in wanted.files.iter().zip(wanted.file_roots.iter()) {
-        let file = last_part(file);
-        if differ_in_hash(stem(file), name) {
-            return Some((*root, file));
-        }
-    }
-    for (place, origin) in wanted.places.iter().zip(wanted.origins.iter()) {
-        if let Origin::Below(root) = origin {
-            if differ_in_hash(last_part(bare(&place.script)), name) {
-                return Some((*root, last_part(&place.file)));
-            }
-        }
-    }
-    None
-}
-
-/// Says of which build a script is that has no map, if the folder has a map whose name differs in a hash.
-fn build_text(
-    alloc: Global,
-    wanted: &Wanted<'_>,
-    name: &[u8],
-) -> Result<Option<String>, AllocError> {
-    let name = last_part(bare(name));
-    let Some((number, file)) = map_of_build(wanted, name) else {
-        return Ok(None);
-    };
-    let Some(root) = wanted.roots.get(number) else {
-        return Ok(None);
-    };
-    let root = root.path.as_str();
-    let (file, name) = (printable(alloc, file)?, printable(alloc, name)?);
-    let (file, name) = (file.as_str(), name.as_str());
-    let text = format!(in alloc; "{root} has {file}, the log {name}: of another build?")?;
-    Ok(Some(text))
-}
 
 /// Adds the frames of lines without a mapping, though their script has a map, of so many lines at most.
 fn add_missed_lines<E: Eprint + AllocGlobal, D: Disk>(
@@ -70,13 +17,13 @@ fn add_missed_lines<E: Eprint + AllocGlobal, D: Disk>(
     left: &mut u64,
     missed: &mut Counted,
 ) -> Result<(), AllocError> {
-    let (scripts, style) = (run.finder.scripts(), &run.job.style);
+    let (scripts, hide) = (run.finder.scripts(), run.job.style.hide);
     for line in lines.split_inclusive(|b| *b == b'\n') {
         if *left == 0 {
             return Ok(());
         }
         *left -= 1;
-        add_missed(run.host.alloc(), line, scripts, style, missed)?;
+        add_missed(run.host.alloc(), line, scripts, hide, missed)?;
     }
     Ok(())
 }
@@ -174,7 +121,7 @@ impl<E: Eprint + AllocGlobal, D: Disk> Run<'_, E, D> {
                 host.alloc(),
                 lines,
                 scripts,
-                &job.style,
+                job.style.hide,
                 &mut self.frames.missed,
             )?;
         }
@@ -293,10 +240,13 @@ impl<E: Eprint + AllocGlobal, D: Disk> Run<'_, E, D> {
             return Ok(());
         }
         self.count_frames()?;
-        self.say_mismatches()?;
+        say_mismatches(self.host, &self.finder, &self.frames.used)?;
         if self.is_unmapped()? {
-            let escaped = self.start.is_escaped;
-            return hint_at_nothing(self.host, self.job, &self.frames, escaped, &self.finder);
+            let log = LogForm {
+                anywhere: self.job.anywhere,
+                is_escaped: self.start.is_escaped,
+            };
+            return hint_at_nothing(self.host, &self.job.wanted, &self.frames, log, &self.finder);
         }
         if self.start.lines != self.tally.lines {
             // What was named and what was translated differ, as standard input does that was read before.

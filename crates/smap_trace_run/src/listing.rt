@@ -1,11 +1,13 @@
 //! `--list`: the scripts that a log names.
-use crate::hints::hint_at_start;
 use crate::output::Output;
 use crate::tracing::{Job, open_log, open_names, stop_if_strict};
+use indexmap::IndexMap;
+use smap_link::{bare, common_tail};
 use smap_logs::{Log, Looked, Names};
 use smap_map_files::Wanted;
 use smap_map_finder::Finder;
 use smap_system::{Disk, Host, Stop, printable};
+use smap_trace_summary::{Taken, hint_at_start, path_of, taken_of};
 use std::alloc::{AllocError, Global};
 use std::io::{Read, Write};
 
@@ -59,32 +61,124 @@ where
     Err(host.fail(3, "cannot read the log"))
 }
 
+/// A script that the logs name: how often, and the file that it takes.
+#[derive(Clone, Copy)]
+struct Row<'f, 's> {
+    count: u64,
+    name: &'s [u8],
+    file: Option<&'f [u8]>,
+}
+
 /// The names with their counts, the most frequent first, then in the order of their bytes.
-fn rows(alloc: Global, names: &Names) -> Result<Vec<(u64, &[u8])>, AllocError> {
+fn rows<'f, 's>(
+    alloc: Global,
+    names: &'s Names,
+    files: &[Option<&'f [u8]>],
+) -> Result<Vec<Row<'f, 's>>, AllocError> {
     let mut rows = Vec::with_capacity(alloc, names.frames.len())?;
-    for (name, count) in names.frames.iter() {
-        rows.push((*count, name.as_slice()))?;
+    for ((name, count), file) in names.frames.iter().zip(files.iter()) {
+        rows.push(Row {
+            count: *count,
+            name: name.as_slice(),
+            file: *file,
+        })?;
     }
-    rows.sort_by(|a, b| b.0.cmp(&a.0).then(a.1.cmp(b.1)))?;
+    rows.sort_by(|a, b| b.count.cmp(&a.count).then(a.name.cmp(b.name)))?;
     Ok(rows)
+}
+
+/// Whether of a script's name and of a file's name without `.map` the last segment alone is the same.
+fn agree_in_last(name: &[u8], file: &[u8]) -> bool {
+    let file = file.strip_suffix(b".map".as_slice()).unwrap_or(file);
+    let name = bare(name);
+    let same = common_tail(name, file);
+    let Some(before) = name.len().checked_sub(same) else {
+        return false;
+    };
+    match (name.get(before..), path_of(name).get(1..)) {
+        (Some(tail), Some(path)) => !tail.contains(&b'/') && path.contains(&b'/'),
+        _ => false,
+    }
+}
+
+/// What makes it doubtful that the map of a file is that of a script, in words that end the script's row.
+fn doubt(
+    alloc: Global,
+    wanted: &Wanted<'_>,
+    name: &[u8],
+    taken: &Taken<'_, '_>,
+) -> Result<String, AllocError> {
+    let file = printable(alloc, taken.file)?;
+    let file = file.as_str();
+    if let Some(other) = taken.other {
+        let other = if name == taken.script {
+            other
+        } else {
+            taken.script
+        };
+        let other = printable(alloc, other)?;
+        let other = other.as_str();
+        return format!(in alloc; "  ({file}, which {other} takes too)");
+    }
+    let is_by_end = wanted.files.iter().any(|f| f.as_slice() == taken.file);
+    if is_by_end && agree_in_last(name, taken.file) {
+        return format!(in alloc; "  ({file}, by its file name alone)");
+    }
+    Ok(String::new(alloc))
+}
+
+/// What makes it doubtful that the map that a script takes is its own, if something does.
+fn doubt_of(
+    alloc: Global,
+    wanted: &Wanted<'_>,
+    all: &IndexMap<&[u8], Taken<'_, '_>>,
+    row: Row<'_, '_>,
+) -> Result<String, AllocError> {
+    let Some(file) = row.file else {
+        return Ok(String::new(alloc));
+    };
+    match all.get(file) {
+        Some(taken) => doubt(alloc, wanted, row.name, taken),
+        None => Ok(String::new(alloc)),
+    }
+}
+
+/// A row in words.
+fn row_text(alloc: Global, row: Row<'_, '_>, has: &str, doubt: &str) -> Result<String, AllocError> {
+    let count = row.count;
+    let name = printable(alloc, row.name)?;
+    let name = name.as_str();
+    format!(in alloc; "{count:>7}  {has}  {name}{doubt}\n")
+}
+
+/// The line of a row.
+fn line_of<E: Eprint + AllocGlobal, D: Disk>(
+    alloc: Global,
+    wanted: &Wanted<'_>,
+    finder: &Finder<'_, E, D>,
+    all: &IndexMap<&[u8], Taken<'_, '_>>,
+    row: Row<'_, '_>,
+) -> Result<String, AllocError> {
+    if finder.map_of(row.name).is_none() {
+        return row_text(alloc, row, "no map   ", "");
+    }
+    let doubt = doubt_of(alloc, wanted, all, row)?;
+    row_text(alloc, row, "has a map", doubt.as_str())
 }
 
 /// The list.
 fn list_text<E: Eprint + AllocGlobal, D: Disk>(
     alloc: Global,
+    wanted: &Wanted<'_>,
     names: &Names,
     finder: &Finder<'_, E, D>,
-) -> Result<String, AllocError> {
+) -> Result<String, Stop> {
+    let scripts = names.of_frames(alloc)?;
+    let files = finder.files_of(true, &scripts)?;
+    let all = taken_of(alloc, &scripts, &files)?;
     let mut text = String::new(alloc);
-    for (count, name) in rows(alloc, names)? {
-        let has = if finder.map_of(name).is_some() {
-            "has a map"
-        } else {
-            "no map   "
-        };
-        let name = printable(alloc, name)?;
-        let name = name.as_str();
-        let line = format!(in alloc; "{count:>7}  {has}  {name}\n")?;
+    for row in rows(alloc, names, &files)? {
+        let line = line_of(alloc, wanted, finder, &all, row)?;
         text.push_str(line.as_str())?;
     }
     Ok(text)
@@ -191,7 +285,7 @@ fn write_list<E: Eprint + AllocGlobal, D: Disk, W: Write + Drop>(
     open_names(alloc, &job.with_controls, &listed.names, finder)?;
     stop_if_strict(job, finder)?;
     finder.tell_count()?;
-    let text = list_text(alloc, &listed.names, finder)?;
+    let text = list_text(alloc, &job.wanted, &listed.names, finder)?;
     output.write(host, text.as_bytes())?;
     hint_at_list(host, job, listed, finder)?;
     Ok(finder.status())

@@ -235,29 +235,21 @@ fn end_file<E: Eprint + AllocGlobal, D: Disk>(
     }
 }
 
-/// Writes to the file that `-o` names, beside it until all is written. Answers the status of a run that came
-/// to its end.
-fn run_to_file<'h, E: Eprint + AllocGlobal, D: Disk, I: Read>(
-    host: &'h Host<'h, E, D>,
-    job: &Job<'_>,
-    input: Input<I>,
+/// Begins the file that `-o` names, which is written beside it until all is there.
+fn begin_file<E: Eprint + AllocGlobal, D: Disk>(
+    host: &Host<'_, E, D>,
     file: &str,
-) -> Result<u8, Stop>
-where
-    I: Drop,
-{
+) -> Result<(Beside, D::Writer), Stop> {
     if host.disk.kind(file) == Kind::Special {
         return Err(host.fail(
             2,
             "-o: expected the name of a file, which no pipe or device is",
         ));
     }
-    let (beside, writer) = match create_beside(host.alloc(), host.disk, file) {
-        Ok(made) => made,
-        Err(fault) => return Err(host.fail_writing(&fault.into_error())),
-    };
-    let answer = run_job(host, job, input, &mut Output::new(writer));
-    end_file(host, beside, answer)
+    match create_beside(host.alloc(), host.disk, file) {
+        Ok(begun) => Ok(begun),
+        Err(fault) => Err(host.fail_writing(&fault.into_error())),
+    }
 }
 
 /// Whether it is no fault of the run that maps are refused.
@@ -346,7 +338,11 @@ where
     let prefixes = prefixes(host.alloc(), &asked.prefixes)?;
     let job = job_of(&*host, asked, &prefixes, input.kind)?;
     match asked.options.text("output") {
-        Some(file) => run_to_file(host, &job, input, file),
+        Some(file) => {
+            let (beside, writer) = begin_file(&*host, file)?;
+            let answer = run_job(host, &job, input, &mut Output::new(writer));
+            end_file(&*host, beside, answer)
+        }
         None => run_job(host, &job, input, output),
     }
 }

@@ -14,15 +14,13 @@ ghost use Rattle.smap_trace_run.specs.Written.{AreAmong, AreLogs, IsLog, IsOfLog
 ghost use Rattle.smap_trace_run.specs.Written.{AreSettled, AreSettledLogs, IsNameOf, IsTracedTextIn};
 
 use crate::decorating::Style;
-use crate::frames::Frames;
-use crate::given::Given;
-use crate::hints::{has_escaped_url, hint_at_start};
 use crate::output::Output;
 use crate::translating::Tally;
 use smap_logs::{Log, Names, has_control, look, names_in};
 use smap_map_files::Wanted;
 use smap_map_finder::{Finder, How};
 use smap_system::{Disk, Host, Stop};
+use smap_trace_summary::{Frames, Given, has_escaped_url, hint_at_start};
 use std::alloc::{AllocError, Global};
 use std::io::{Read, Take, Write};
 use std::marker::Model;

@@ -1,6 +1,5 @@
 //! What helps where nothing was translated, or a log can't be read as it is.
 use crate::frames::Frames;
-use crate::tracing::Job;
 use memchr::memmem;
 use smap_logs::look;
 use smap_map_files::Wanted;
@@ -8,7 +7,7 @@ use smap_map_finder::Finder;
 use smap_system::{Disk, Host, Stop, printable};
 
 /// Says what a log is that isn't text in UTF-8, by its first bytes. Answers whether it is none.
-pub(crate) fn hint_at_start<E: Eprint + AllocGlobal, D: Disk>(
+pub fn hint_at_start<E: Eprint + AllocGlobal, D: Disk>(
     host: &Host<'_, E, D>,
     start: &[u8],
     verbose: bool,
@@ -61,13 +60,22 @@ fn why_no_map<E: Eprint + AllocGlobal, D: Disk>(
     Ok(text)
 }
 
+/// What a log is like, and how it is read.
+#[derive(Clone, Copy)]
+pub struct LogForm {
+    /// Whether positions are looked for anywhere in a line.
+    pub anywhere: bool,
+    /// Whether a line has a URL as JSON has it that writes `\/`.
+    pub is_escaped: bool,
+}
+
 /// What helps where no script of a frame can have a map.
-fn hint_without_names(job: &Job<'_>, frames: &Frames, escaped: bool) -> &'static str {
-    if escaped {
+fn hint_without_names(frames: &Frames, log: LogForm) -> &'static str {
+    if log.is_escaped {
         "the log has URLs written with \\/ (JSON): smap-events reads it"
-    } else if job.anywhere && frames.used.all() > 0 {
+    } else if log.anywhere && frames.used.all() > 0 {
         "nothing was translated: no position in the log has a mapping (of another build?)"
-    } else if job.anywhere {
+    } else if log.anywhere {
         "nothing was translated: no position in the log is one of a script that has a map"
     } else if frames.foreign > 0 {
         "no frame in the log is of a script that can have a map; leave out --frames-only for other lines"
@@ -77,11 +85,11 @@ fn hint_without_names(job: &Job<'_>, frames: &Frames, escaped: bool) -> &'static
 }
 
 /// Says why nothing was translated, where no frame is of a script with a map.
-pub(crate) fn hint_at_nothing<E: Eprint + AllocGlobal, D: Disk>(
+pub fn hint_at_nothing<E: Eprint + AllocGlobal, D: Disk>(
     host: &Host<'_, E, D>,
-    job: &Job<'_>,
+    wanted: &Wanted<'_>,
     frames: &Frames,
-    escaped: bool,
+    log: LogForm,
     finder: &Finder<'_, E, D>,
 ) -> Result<(), Stop> {
     let alloc = host.alloc();
@@ -89,10 +97,10 @@ pub(crate) fn hint_at_nothing<E: Eprint + AllocGlobal, D: Disk>(
         return Ok(());
     }
     let Some(name) = frames.most_without() else {
-        host.say(hint_without_names(job, frames, escaped));
+        host.say(hint_without_names(frames, log));
         return Ok(());
     };
-    let why = why_no_map(host, &job.wanted, name, finder)?;
+    let why = why_no_map(host, wanted, name, finder)?;
     let why = why.as_str();
     let name = printable(alloc, name)?;
     let name = name.as_str();
@@ -102,7 +110,7 @@ pub(crate) fn hint_at_nothing<E: Eprint + AllocGlobal, D: Disk>(
 }
 
 /// Whether a line has a position whose URL is written as in JSON with `\/` for each slash.
-pub(crate) fn has_escaped_url(lines: &[u8]) -> bool {
+pub fn has_escaped_url(lines: &[u8]) -> bool {
     memmem::find(lines, b":\\/\\/").is_some()
         && lines.split(|b| *b == b'\n').any(|line| memmem::find(line, b":\\/\\/").is_some()
             && look(line).is_some())

@@ -1,28 +1,28 @@
 //! How many frames of a run were translated, how many stayed, and why, in words.
 ghost use Rattle.std.specs.Prelude.{◌≡◌, IfOk, string_bytes};
-ghost use Rattle.smap_trace_run.specs.Ending as spec;
+ghost use Rattle.smap_trace_summary.specs.Ending as spec;
 
 use std::alloc::{AllocError, Global};
 
 /// Frames that stayed for one reason.
 #[derive(Clone, Copy)]
-pub(crate) struct Stayed<'a> {
-    pub(crate) count: u64,
+pub struct Stayed<'a> {
+    pub count: u64,
     /// What most of them are of.
-    pub(crate) most: &'a str,
+    pub most: &'a str,
 }
 
 /// What became of the frames of a run, those left out whose scripts can't have a map.
 #[derive(Clone, Copy)]
-pub(crate) struct Summary<'a> {
+pub struct Summary<'a> {
     /// Whether lines were translated that are no frames, so that lines are counted.
-    pub(crate) in_lines: bool,
+    pub in_lines: bool,
     /// How many were translated: frames or lines.
-    pub(crate) translated: u64,
+    pub translated: u64,
     /// Those of scripts with a map that has no mapping for them.
-    pub(crate) unmapped: Stayed<'a>,
+    pub unmapped: Stayed<'a>,
     /// Those of scripts without a map.
-    pub(crate) mapless: Stayed<'a>,
+    pub mapless: Stayed<'a>,
 }
 
 fn frames_word(count: u64) -> &'static str
@@ -97,7 +97,7 @@ fn mapless_text(alloc: Global, in_lines: bool, stayed: &Stayed<'_>) -> Result<St
 
 impl Summary<'_> {
     /// Whether some frames stayed.
-    pub(crate) fn is_said(&self) -> bool
+    pub fn is_said(&self) -> bool
         ensures { result ≡ spec.is_said self.now }
     {
         !(self.unmapped.count == 0 && self.mapless.count == 0)
@@ -127,7 +127,7 @@ impl Summary<'_> {
     /// # Errors
     ///
     /// `AllocError`.
-    pub(crate) fn text(&self, alloc: Global) -> Result<String, AllocError>
+    pub fn text(&self, alloc: Global) -> Result<String, AllocError>
         ensures { IfOk result (λ t. string_bytes t ≡ spec.text self.now) }
     {
         let head = self.head(alloc)?;

@@ -3,7 +3,12 @@ ghost use Rattle.std.specs.Prelude.{◌≡◌, ◌≤◌, length};
 ghost use Rattle.std.specs.Char.{is_ascii_alphanumeric, is_ascii_digit, is_ascii_lowercase};
 ghost use Rattle.std.specs.Char.{is_ascii_uppercase};
 ghost use Rattle.std.specs.List.{list_any, prefix_len};
-ghost use Rattle.smap_trace_run.specs.Builds as spec;
+ghost use Rattle.smap_trace_summary.specs.Builds as spec;
+
+use smap_link::bare;
+use smap_map_files::{Origin, Wanted};
+use smap_system::printable;
+use std::alloc::{AllocError, Global};
 
 /// So many letters and digits a hash has at least.
 const LEAST: usize = 6;
@@ -62,7 +67,7 @@ fn begin_with_hashes(a: &[u8], b: &[u8]) -> bool
 /// Whether two names differ in a hash alone: they are the same up to a separator, which is `-`, `.` or `_`,
 /// different hashes follow, and then the same again. A hash is six or more letters and digits, among them a
 /// digit, or capitals and small letters.
-pub(crate) fn differ_in_hash(a: &[u8], b: &[u8]) -> bool
+pub fn differ_in_hash(a: &[u8], b: &[u8]) -> bool
     ensures { result ≡ spec.differ_in_hash a.now b.now }
 {
     for at in 0..a.len() {
@@ -77,4 +82,58 @@ pub(crate) fn differ_in_hash(a: &[u8], b: &[u8]) -> bool
         }
     }
     false
+}
+
+/// The last part of a path or URL.
+fn last_part<'a>(path: &'a [u8]) -> &'a [u8] {
+    path.rsplit(|b| *b == b'/' || *b == b'\\')
+        .next()
+        .unwrap_or(path)
+}
+
+/// A file's name without `.map`.
+fn stem<'a>(name: &'a [u8]) -> &'a [u8] {
+    name.strip_suffix(b".map".as_slice()).unwrap_or(name)
+}
+
+/// The number of the folder and the file of a map whose script's name differs from this one in a hash alone.
+fn map_of_build<'w>(wanted: &'w Wanted<'_>, name: &[u8]) -> Option<(usize, &'w [u8])> {
+    for (file, root) in wanted.files.iter().zip(wanted.file_roots.iter()) {
+        let file = last_part(file);
+        if differ_in_hash(stem(file), name) {
+            return Some((*root, file));
+        }
+    }
+    for (place, origin) in wanted.places.iter().zip(wanted.origins.iter()) {
+        if let Origin::Below(root) = origin {
+            if differ_in_hash(last_part(bare(&place.script)), name) {
+                return Some((*root, last_part(&place.file)));
+            }
+        }
+    }
+    None
+}
+
+/// Says of which build a script is that has no map, if the folder has a map whose name differs in a hash.
+///
+/// # Errors
+///
+/// `AllocError`.
+pub fn build_text(
+    alloc: Global,
+    wanted: &Wanted<'_>,
+    name: &[u8],
+) -> Result<Option<String>, AllocError> {
+    let name = last_part(bare(name));
+    let Some((number, file)) = map_of_build(wanted, name) else {
+        return Ok(None);
+    };
+    let Some(root) = wanted.roots.get(number) else {
+        return Ok(None);
+    };
+    let root = root.path.as_str();
+    let (file, name) = (printable(alloc, file)?, printable(alloc, name)?);
+    let (file, name) = (file.as_str(), name.as_str());
+    let text = format!(in alloc; "{root} has {file}, the log {name}: of another build?")?;
+    Ok(Some(text))
 }

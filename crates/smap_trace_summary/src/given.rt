@@ -17,7 +17,7 @@ fn is_rest(name: &[u8]) -> bool {
 }
 
 /// Whether a script with this name can have a map at all: `node:fs`, `about:blank` and `<anonymous>` can't.
-pub(crate) fn can_have_map(name: &[u8]) -> bool {
+pub fn can_have_map(name: &[u8]) -> bool {
     if is_path(name) {
         return true;
     }
@@ -32,7 +32,7 @@ pub(crate) fn can_have_map(name: &[u8]) -> bool {
 
 /// What the arguments name, as far as it says which scripts might have a map.
 #[derive(Drop)]
-pub(crate) struct Given {
+pub struct Given {
     /// Whether a folder is given alone, which any script may belong to.
     any: bool,
     /// The URLs of the other folders, by their normal forms.
@@ -56,7 +56,7 @@ fn have_urls(alloc: Global, wanted: &Wanted<'_>) -> Result<Vec<bool>, AllocError
 }
 
 impl Given {
-    pub(crate) fn of(alloc: Global, wanted: &Wanted<'_>) -> Result<Given, AllocError> {
+    pub fn of(alloc: Global, wanted: &Wanted<'_>) -> Result<Given, AllocError> {
         let mut folders = Vec::new(alloc);
         let have_urls = have_urls(alloc, wanted)?;
         for (root, has_url) in wanted.roots.iter().zip(have_urls.iter()) {
@@ -79,7 +79,7 @@ impl Given {
 
     /// Whether a script with this name might have had a map: one below a folder's URL, one alike to a script
     /// that is given, and where a folder is given alone, each that can have one.
-    pub(crate) fn might_have(&self, alloc: Global, name: &[u8]) -> Result<bool, AllocError> {
+    pub fn might_have(&self, alloc: Global, name: &[u8]) -> Result<bool, AllocError> {
         if self.any && can_have_map(name) {
             return Ok(true);
         }

@@ -1,8 +1,8 @@
 -- What is said at the end of a run.
 use Rattle.std.specs.Prelude.{ℕ, ◌+◌, ◌-◌, ◌^◌, ◌==◌, ◌&&◌, Bool, not, cond, decimal, List, [], ◌++◌, codes}
 use Rattle.std.specs.Prelude.{min}
-use Rattle.smap_trace_run.specs.declared.summary.Stayed.{Stayed}
-use Rattle.smap_trace_run.specs.declared.summary.Summary.{Summary}
+use Rattle.smap_trace_summary.specs.declared.summary.Stayed.{Stayed}
+use Rattle.smap_trace_summary.specs.declared.summary.Summary.{Summary}
 
 abbrev pub frames_word : ℕ → List ℕ
 frames_word n = cond (n == 1) (codes "frame") (codes "frames")

@@ -1,7 +1,7 @@
 use Rattle.std.proofs.Common.{◌≡◌, ◌∙◌, ap, refl, sym, false, List, ℕ, [], ◌∷◌, drop}
 use Rattle.std.proofs.lemmas.List.{drop_all}
-use Rattle.smap_trace_run.specs.Builds.{differ_in_hash}
-use Rattle.smap_trace_run.proofs.builds.differ_in_hash.Goals as goal
+use Rattle.smap_trace_summary.specs.Builds.{differ_in_hash}
+use Rattle.smap_trace_summary.proofs.builds.differ_in_hash.Goals as goal
 
 none_is_left : (a : List ℕ) → differ_in_hash a [] ≡ false
 none_is_left [] = refl

@@ -1,10 +1,10 @@
 //! Maps that seem to be of other scripts than those that take them: said at the end of a run.
 use crate::frames::Counted;
-use crate::tracing::Run;
 use indexmap::IndexMap;
 use memchr::memmem;
 use smap_link::{FileKind, file_kind, normal_form};
 use smap_lint_rules::{debug_id, file_agrees, members_of, same_id};
+use smap_map_finder::Finder;
 use smap_mappings::{Token, is_within, script_widths};
 use smap_record::{ReadError, SourceMap, map_tree};
 use smap_system::{Disk, FileFault, Host, Kind, LIMIT, Stop, printable, read_file};
@@ -15,11 +15,11 @@ const MOST_SAID: usize = 5;
 
 /// A file that gave a map, and scripts of the log that take it.
 #[derive(Clone, Copy)]
-struct Taken<'a> {
-    file: &'a [u8],
-    script: &'a [u8],
+pub struct Taken<'f, 's> {
+    pub file: &'f [u8],
+    pub script: &'s [u8],
     /// One of another origin.
-    other: Option<&'a [u8]>,
+    pub other: Option<&'s [u8]>,
 }
 
 /// The scheme and the host of a URL; other names have none.
@@ -34,6 +34,14 @@ fn origin<'a>(name: &'a [u8]) -> Option<&'a [u8]> {
     name.get(..host.checked_add(size)?)
 }
 
+/// What follows the scheme and the host of a URL; of other names all.
+pub fn path_of<'a>(name: &'a [u8]) -> &'a [u8] {
+    match origin(name) {
+        Some(origin) => name.get(origin.len()..).unwrap_or(name),
+        None => name,
+    }
+}
+
 /// Whether two names have different origins, however these are spelled.
 fn are_of_two(alloc: Global, a: &[u8], b: &[u8]) -> Result<bool, AllocError> {
     let (a, b) = (normal_form(alloc, a)?, normal_form(alloc, b)?);
@@ -44,11 +52,11 @@ fn are_of_two(alloc: Global, a: &[u8], b: &[u8]) -> Result<bool, AllocError> {
 }
 
 /// Notes that a script takes the map of a file.
-fn note<'a>(
+fn note<'f, 's>(
     alloc: Global,
-    all: &mut IndexMap<&'a [u8], Taken<'a>>,
-    file: &'a [u8],
-    script: &'a [u8],
+    all: &mut IndexMap<&'f [u8], Taken<'f, 's>>,
+    file: &'f [u8],
+    script: &'s [u8],
 ) -> Result<(), AllocError> {
     let Some(number) = all.get_index_of(file) else {
         let taken = Taken {
@@ -64,6 +72,21 @@ fn note<'a>(
         taken.other = Some(script);
     }
     Ok(())
+}
+
+/// The files that scripts take, each once, with the first of these.
+pub fn taken_of<'f, 's>(
+    alloc: Global,
+    scripts: &[&'s [u8]],
+    files: &[Option<&'f [u8]>],
+) -> Result<IndexMap<&'f [u8], Taken<'f, 's>>, AllocError> {
+    let mut all = IndexMap::new(alloc);
+    for (script, file) in scripts.iter().zip(files.iter()) {
+        if let Some(file) = *file {
+            note(alloc, &mut all, file, *script)?;
+        }
+    }
+    Ok(all)
 }
 
 /// The file of the script whose map a file is or names, if it is there.
@@ -144,7 +167,7 @@ fn past_end_text(
 fn other_file_text(
     alloc: Global,
     map: &SourceMap,
-    taken: &Taken<'_>,
+    taken: &Taken<'_, '_>,
     script: &str,
 ) -> Result<Option<String>, AllocError> {
     let Some(file) = map.file() else {
@@ -206,7 +229,7 @@ fn strange_part<D: Disk>(
     alloc: Global,
     disk: &D,
     map: &SourceMap,
-    taken: &Taken<'_>,
+    taken: &Taken<'_, '_>,
     file: &str,
     script: &Script,
 ) -> Result<Option<String>, AllocError> {
@@ -224,7 +247,7 @@ fn strange_text<D: Disk>(
     alloc: Global,
     disk: &D,
     map: &SourceMap,
-    taken: &Taken<'_>,
+    taken: &Taken<'_, '_>,
 ) -> Result<Option<String>, AllocError> {
     let Some(file) = script_file(disk, taken.file) else {
         return Ok(None);
@@ -244,7 +267,7 @@ fn strange_text<D: Disk>(
 /// Says that scripts of two origins take one map.
 fn say_origins<E: Eprint + AllocGlobal, D: Disk>(
     host: &Host<'_, E, D>,
-    taken: &Taken<'_>,
+    taken: &Taken<'_, '_>,
 ) -> Result<bool, AllocError> {
     let Some(other) = taken.other else {
         return Ok(false);
@@ -259,45 +282,43 @@ fn say_origins<E: Eprint + AllocGlobal, D: Disk>(
     Ok(true)
 }
 
-impl<E: Eprint + AllocGlobal, D: Disk> Run<'_, E, D> {
-    /// Says what is strange about a map. Answers whether something is.
-    fn say_mismatch(&self, taken: &Taken<'_>) -> Result<bool, AllocError> {
-        let (host, alloc) = (self.host, self.host.alloc());
-        let is_shared = say_origins(host, taken)?;
-        let Some(map) = self.finder.map_of(taken.script) else {
-            return Ok(is_shared);
-        };
-        match strange_text(alloc, host.disk, map, taken)? {
-            Some(text) => {
-                host.say(text.as_str());
-                Ok(true)
-            }
-            None => Ok(is_shared),
+/// Says what is strange about a map. Answers whether something is.
+fn say_mismatch<E: Eprint + AllocGlobal, D: Disk>(
+    host: &Host<'_, E, D>,
+    finder: &Finder<'_, E, D>,
+    taken: &Taken<'_, '_>,
+) -> Result<bool, AllocError> {
+    let is_shared = say_origins(host, taken)?;
+    let Some(map) = finder.map_of(taken.script) else {
+        return Ok(is_shared);
+    };
+    match strange_text(host.alloc(), host.disk, map, taken)? {
+        Some(text) => {
+            host.say(text.as_str());
+            Ok(true)
         }
+        None => Ok(is_shared),
     }
+}
 
-    /// The files that gave maps, each once.
-    fn taken_maps<'b>(&'b self) -> Result<IndexMap<&'b [u8], Taken<'b>>, Stop> {
-        let alloc = self.host.alloc();
-        let names = self.frames.used.names(alloc)?;
-        let files = self.finder.files_of(true, &names)?;
-        let mut all = IndexMap::new(alloc);
-        for (script, file) in names.iter().zip(files.iter()) {
-            if let Some(file) = *file {
-                note(alloc, &mut all, file, *script)?;
-            }
+/// Says which maps seem to be of other scripts than these, which take them, of the first maps.
+///
+/// # Errors
+///
+/// `Stop::Memory`.
+pub fn say_mismatches<E: Eprint + AllocGlobal, D: Disk>(
+    host: &Host<'_, E, D>,
+    finder: &Finder<'_, E, D>,
+    used: &Counted,
+) -> Result<(), Stop> {
+    let alloc = host.alloc();
+    let names = used.names(alloc)?;
+    let files = finder.files_of(true, &names)?;
+    let mut said = 0;
+    for (_, taken) in taken_of(alloc, &names, &files)?.iter() {
+        if said < MOST_SAID && say_mismatch(host, finder, taken)? {
+            said += 1;
         }
-        Ok(all)
     }
-
-    /// Says which maps seem to be of other scripts than those that take them, of the first of these.
-    pub(crate) fn say_mismatches(&self) -> Result<(), Stop> {
-        let mut said = 0;
-        for (_, taken) in self.taken_maps()?.iter() {
-            if said < MOST_SAID && self.say_mismatch(taken)? {
-                said += 1;
-            }
-        }
-        Ok(())
-    }
+    Ok(())
 }

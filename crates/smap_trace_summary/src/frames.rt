@@ -1,5 +1,4 @@
 //! The frames of a run's logs, counted by what became of them, for what is said at the end.
-use crate::decorating::Style;
 use crate::given::{Given, can_have_map};
 use indexmap::IndexMap;
 use smap_logs::Names;
@@ -15,13 +14,13 @@ const MOST_COUNTED: usize = 10_000;
 
 /// How many frames there are of one kind, and how many have each name.
 #[derive(Drop)]
-pub(crate) struct Counted {
+pub struct Counted {
     all: u64,
     names: IndexMap<Vec<u8>, u64>,
 }
 
 impl Counted {
-    pub(crate) fn new(alloc: Global) -> Counted {
+    pub fn new(alloc: Global) -> Counted {
         Counted {
             all: 0,
             names: IndexMap::new(alloc),
@@ -29,12 +28,12 @@ impl Counted {
     }
 
     /// How many there are.
-    pub(crate) fn all(&self) -> u64 {
+    pub fn all(&self) -> u64 {
         self.all
     }
 
     /// Their names.
-    pub(crate) fn names(&self, alloc: Global) -> Result<Vec<&[u8]>, AllocError> {
+    pub fn names(&self, alloc: Global) -> Result<Vec<&[u8]>, AllocError> {
         let mut names = Vec::with_capacity(alloc, self.names.len())?;
         for (name, _) in self.names.iter() {
             names.push(name.as_slice())?;
@@ -43,7 +42,7 @@ impl Counted {
     }
 
     /// Whether all have one name.
-    pub(crate) fn is_of_one(&self) -> bool {
+    pub fn is_of_one(&self) -> bool {
         self.names.len() == 1
     }
 
@@ -71,32 +70,32 @@ impl Counted {
     }
 
     /// The name that most have; of several the first.
-    pub(crate) fn most(&self) -> Option<&[u8]> {
+    pub fn most(&self) -> Option<&[u8]> {
         self.most_counted().0
     }
 }
 
 /// The frames of a run's logs.
 #[derive(Drop)]
-pub(crate) struct Frames {
+pub struct Frames {
     /// Those of scripts with maps.
-    pub(crate) mapped: Counted,
+    pub mapped: Counted,
     /// Those of scripts without a map that might have had one.
-    pub(crate) mapless: Counted,
+    pub mapless: Counted,
     /// Those of other scripts that can have a map.
-    pub(crate) elsewhere: Counted,
+    pub elsewhere: Counted,
     /// How many there are of scripts that can have none.
-    pub(crate) foreign: u64,
+    pub foreign: u64,
     /// Those of scripts with maps that have no mapping for them, as far as they were looked for.
-    pub(crate) missed: Counted,
+    pub missed: Counted,
     /// Whether the lines of logs were looked through for these as they were translated.
-    pub(crate) are_followed: bool,
+    pub are_followed: bool,
     /// Those of scripts with maps, and what else names such a script.
-    pub(crate) used: Counted,
+    pub used: Counted,
 }
 
 impl Frames {
-    pub(crate) fn none(alloc: Global) -> Frames {
+    pub fn none(alloc: Global) -> Frames {
         Frames {
             mapped: Counted::new(alloc),
             mapless: Counted::new(alloc),
@@ -109,7 +108,7 @@ impl Frames {
     }
 
     /// How many there are.
-    pub(crate) fn all(&self) -> u64 {
+    pub fn all(&self) -> u64 {
         self.mapped
             .all()
             .saturating_add(self.mapless.all())
@@ -118,7 +117,7 @@ impl Frames {
     }
 
     /// The name that most frames have of scripts without a map that can have one.
-    pub(crate) fn most_without(&self) -> Option<&[u8]> {
+    pub fn most_without(&self) -> Option<&[u8]> {
         let (near, far) = (self.mapless.most_counted(), self.elsewhere.most_counted());
         if far.1 > near.1 { far.0 } else { near.0 }
     }
@@ -158,7 +157,7 @@ impl Frames {
     }
 
     /// Counts the frames with these names, whose maps are open, and what else names scripts.
-    pub(crate) fn add<E: Eprint + AllocGlobal, D: Disk>(
+    pub fn add<E: Eprint + AllocGlobal, D: Disk>(
         &mut self,
         alloc: Global,
         with_controls: &[Vec<u8>],
@@ -191,18 +190,18 @@ fn add_missed_line(
     alloc: Global,
     text: &[u8],
     scripts: &Scripts<Arc<SourceMap>>,
-    style: &Style<'_>,
+    hide: bool,
     missed: &mut Counted,
 ) -> Result<(), AllocError> {
     let Some(frame) = frame(text) else {
         return Ok(());
     };
-    if style.hide && is_hidden(text, scripts, style.mode.ignore_query) {
+    if hide && is_hidden(text, scripts, false) {
         return Ok(());
     }
     let alone = MatchMode {
         anywhere: false,
-        ignore_query: style.mode.ignore_query,
+        ignore_query: false,
     };
     let Ok(positions) = line_positions(alloc, text, scripts, alone) else {
         return Err(AllocError);
@@ -213,16 +212,21 @@ fn add_missed_line(
     }
 }
 
-/// Counts the frames of these lines whose scripts have maps without a mapping for them.
-pub(crate) fn add_missed(
+/// Counts the frames of these lines whose scripts have maps without a mapping for them; those that are to be
+/// hidden aren't counted.
+///
+/// # Errors
+///
+/// `AllocError`.
+pub fn add_missed(
     alloc: Global,
     lines: &[u8],
     scripts: &Scripts<Arc<SourceMap>>,
-    style: &Style<'_>,
+    hide: bool,
     missed: &mut Counted,
 ) -> Result<(), AllocError> {
     for text in lines.split(|b| *b == b'\n') {
-        add_missed_line(alloc, text, scripts, style, missed)?;
+        add_missed_line(alloc, text, scripts, hide, missed)?;
     }
     Ok(())
 }
