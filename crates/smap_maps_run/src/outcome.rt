@@ -6,7 +6,7 @@ use smap_fault_places::{Point, TextRange};
 use smap_record::Fault;
 
 /// Why a map is neither accepted nor refused, or can't be replaced.
-#[derive(Clone, Copy, Debug, PartialEq, Eq)]
+#[derive(Clone, Copy, PartialEq, Eq)]
 pub enum Failure {
     /// The file can't be read.
     Unread,
@@ -45,7 +45,7 @@ pub struct Refusal {
 }
 
 /// What became of a map.
-#[derive(Debug, Drop)]
+#[derive(Drop)]
 pub enum Verdict {
     /// It is a map: nothing more was asked.
     Accepted,
@@ -100,7 +100,7 @@ impl Verdict {
 }
 
 /// What became of a map, and what a rewrite of it drops and changes.
-#[derive(Debug, Drop)]
+#[derive(Drop)]
 pub struct Outcome {
     /// What became of it.
     pub verdict: Verdict,

@@ -1,6 +1,6 @@
 -- What positions have in a map that ends where the lines of its script do.
 use Rattle.std.specs.Prelude.{◌≡◌, ℕ, ◌≤◌, true, false, List, None, option_and_then}
-use Rattle.smap_vlq.specs.Limits.{max_position}
+use Rattle.smap_mappings.specs.Position.{max_position}
 use Rattle.smap_mappings.specs.Widths.{is_within}
 use Rattle.smap_record.specs.Record.{ReadMap, record_of}
 use Rattle.smap_record.specs.Ends.{ended_map}

@@ -3,7 +3,7 @@ ghost use Rattle.std.specs.Prelude.{◌≡◌, ◌≢◌};
 ghost use Rattle.smap_view_run.specs.Status as spec;
 
 /// What was found wrong in a run that did all that it was asked, or all that could be done.
-#[derive(Clone, Copy, Debug, PartialEq, Eq)]
+#[derive(Clone, Copy, PartialEq, Eq)]
 pub(crate) struct Verdict {
     /// Whether a map was refused, or a script of a folder left out.
     pub(crate) refused: bool,
