@@ -243,12 +243,10 @@ if_both (Ok None) f g p = f p
 if_both (Err e) f g p = tt
 
 -- what is said of a map where there is one
-pub if_some : {A E : Type 0} (Q : Type 0) {R S : A → Type 0} (result : Result (Option A) E)
-    → ((a : A) → R a → S a) → IfOk result (λ found. MatchOption found Q R)
-    → IfOk result (λ found. IfSome found S)
-if_some Q (Ok (Some a)) f p = f a p
-if_some Q (Ok None) f p = tt
-if_some Q (Err e) f p = tt
+pub some_of : {A : Type 0} (Q : Type 0) {R S : A → Type 0} (found : Option A) → ((a : A) → R a → S a)
+    → MatchOption found Q R → IfSome found S
+some_of Q (Some a) f p = f a p
+some_of Q None f p = tt
 
 -- the lines of a script next to a map
 pub ends_beside : (held : Held) (root home : Option Folder) (place script : MapPlace) (text : List ℕ)
