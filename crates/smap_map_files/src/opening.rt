@@ -94,21 +94,17 @@ fn ends_of(
     ensures { IfOk result (λ ends. widths_in ends
         ≡ spec.ends_of (folder_of subject.now.root) subject.now.place.file.items text.now) }
 {
-    if subject.root.is_none() {
+    let Some(_) = subject.root else {
         return Ok(None);
+    };
+    if is_script(&subject.place.file) {
+        return script_widths(alloc, text);
     }
-    if !is_script(&subject.place.file) {
-        return Ok(None);
-    }
-    script_widths(alloc, text)
+    Ok(None)
 }
 
 /// What was loaded, as that of a script whose lines are so wide, if that is known.
-fn ended(
-    alloc: Global,
-    loaded: Loaded,
-    ends: &Option<Vec<usize>>,
-) -> Result<Loaded, AllocError>
+fn ended(alloc: Global, loaded: Loaded, ends: &Option<Vec<usize>>) -> Result<Loaded, AllocError>
     ensures { IfOk result (λ it. it ≡ ended_loaded (widths_in ends.now) loaded) }
 {
     let Some(widths) = ends else {
