@@ -16,7 +16,7 @@ use Rattle.smap_map_files.specs.declared.loading.MapFault.{MapFault}
 use Rattle.smap_map_files.specs.Given.{Folder, Holds, IsContent, IsLoaded, IsLoadedTo, IsRead, IsReadTo}
 use Rattle.smap_map_files.specs.Given.{IsUnread, Names, NamesNothing, NamesUnfound}
 use Rattle.smap_map_files.specs.Given.{ended_loaded, ends_of, folder_for, has_lines, linked_base}
-use Rattle.smap_map_files.specs.Opened.{AreEnds, AreBeside, GivesNone, IsFollowedUp, IsLeftOut, IsLink, IsOpened}
+use Rattle.smap_map_files.specs.Opened.{AreEnds, GivesNone, IsFollowedUp, IsLeftOut, IsLink, IsOpened}
 use Rattle.smap_map_files.specs.Opened.{IsReached}
 use Rattle.smap_map_files.specs.Opened.{may_lie_beside, script_beside, with_base, within_base}
 

@@ -1,7 +1,7 @@
 -- What a file gives for a map: itself, or the map that it names where it is a script or a style sheet
 -- (ECMA-426, "Linking generated code to source maps").
 use Rattle.std.specs.Prelude.{◌≡◌, ◌⊎◌, ℕ, ◌-◌, ◌==◌, ◌&&◌, Bool, false, true, not, nat_eq}
-use Rattle.std.specs.Prelude.{List, [], ◌++◌, codes, cond, drop, length, take, ⊤}
+use Rattle.std.specs.Prelude.{List, [], codes, cond, drop, length, take, ⊤}
 use Rattle.std.specs.Prelude.{Option, Some, None, option_and_then, option_map, unwrap_or, Result, Ok, Err}
 use Rattle.std.specs.Prelude.{IsErr}
 use Rattle.std.specs.List.{starts_with, suffix_len}
