@@ -1,6 +1,6 @@
 -- What was found by the URL that a script names.
-use Rattle.std.proofs.Common.{◌≡◌, ◌∙◌, inl, inr, List, ℕ, [], ◌++◌, Bool, true, false, not, ◌&&◌, cond}
-use Rattle.std.proofs.Common.{None, Some, Result, Ok, IsErr, append_assoc, refl}
+use Rattle.std.proofs.Common.{◌≡◌, inl, inr, List, ℕ, Bool, true, false, not, ◌&&◌, cond}
+use Rattle.std.proofs.Common.{None, Some, Result, Ok, IsErr, refl}
 use Rattle.smap_link.specs.Inline.{is_data, data_of, some_map}
 use Rattle.smap_link.specs.Kinds.{link_in}
 use Rattle.smap_link.specs.declared.inline.InlineFault.{InlineFault}

@@ -1,10 +1,13 @@
 -- What was reached by what a file holds and what that names.
-use Rattle.std.proofs.Common.{◌≡◌, ◌⊎◌, ◌<◌, inl, inr, cond, List, ℕ, Bool, true, Option, Some, None}
+use Rattle.std.proofs.Common.{◌≡◌, ◌⊎◌, ◌<◌, inl, inr, cond, List, ℕ, Bool, true, false, Option, Some, None}
+use Rattle.std.specs.Prelude.{is_some}
 use Rattle.std.proofs.Common.{Result, Ok, Err, IfOk, IfSome, IsSome, MatchOption, ap, refl}
 use Rattle.std.specs.Global.{Vec}
 use Rattle.smap_system.specs.Held.{Held, IsHeld}
 use Rattle.smap_map_choice.specs.Opening.{IsMadeOf}
 use Rattle.smap_map_choice.specs.Places.{MapPlace}
+use Rattle.smap_link.specs.Kinds.{file_kind}
+use Rattle.smap_mappings.specs.Widths.{script_widths}
 use Rattle.smap_record.specs.Record.{ReadMap}
 use Rattle.smap_map_files.specs.declared.loading.Content.TheVariants as content
 use Rattle.smap_map_files.specs.declared.loading.Loaded.{Loaded}
@@ -12,8 +15,8 @@ use Rattle.smap_map_files.specs.declared.loading.Loaded.TheVariants as loaded
 use Rattle.smap_map_files.specs.declared.loading.MapFault.{MapFault}
 use Rattle.smap_map_files.specs.Given.{Folder, Holds, IsContent, IsLoaded, IsLoadedTo, IsRead, IsReadTo}
 use Rattle.smap_map_files.specs.Given.{IsUnread, Names, NamesNothing, NamesUnfound}
-use Rattle.smap_map_files.specs.Given.{ended_loaded, ends_of, folder_for, linked_base}
-use Rattle.smap_map_files.specs.Opened.{AreEnds, AreBeside, GivesNone, IsFollowedUp, IsLeftOut, IsLink, IsOpened}
+use Rattle.smap_map_files.specs.Given.{ended_loaded, ends_of, folder_for, has_lines, linked_base}
+use Rattle.smap_map_files.specs.Opened.{AreEnds, GivesNone, IsFollowedUp, IsLeftOut, IsLink, IsOpened}
 use Rattle.smap_map_files.specs.Opened.{IsReached}
 use Rattle.smap_map_files.specs.Opened.{may_lie_beside, script_beside, with_base, within_base}
 
@@ -30,6 +33,16 @@ held_bytes None place bytes made = tt
 held_bytes (Some held) place bytes made = made
 
 -- ---- where a map ends
+
+pub no_ends : (root : Option Folder) (script text : List ℕ) → has_lines (file_kind script) ≡ false
+    → None ≡ ends_of root script text
+no_ends None script text e = refl
+no_ends (Some folder) script text e = rw e refl
+
+pub script_ends : (root : Option Folder) (script text : List ℕ) → is_some root ≡ true
+    → has_lines (file_kind script) ≡ true → ends_of root script text ≡ script_widths text
+script_ends None script text some e = cc
+script_ends (Some folder) script text some e = rw e refl
 
 read_whole : (most : ℕ) (url bytes : List ℕ) (it : Loaded) → IsRead most url bytes it
     → IsReadTo most url bytes None it
@@ -243,12 +256,10 @@ if_both (Ok None) f g p = f p
 if_both (Err e) f g p = tt
 
 -- what is said of a map where there is one
-pub if_some : {A E : Type 0} (Q : Type 0) {R S : A → Type 0} (result : Result (Option A) E)
-    → ((a : A) → R a → S a) → IfOk result (λ found. MatchOption found Q R)
-    → IfOk result (λ found. IfSome found S)
-if_some Q (Ok (Some a)) f p = f a p
-if_some Q (Ok None) f p = tt
-if_some Q (Err e) f p = tt
+pub some_of : {A : Type 0} (Q : Type 0) {R S : A → Type 0} (found : Option A) → ((a : A) → R a → S a)
+    → MatchOption found Q R → IfSome found S
+some_of Q (Some a) f p = f a p
+some_of Q None f p = tt
 
 -- the lines of a script next to a map
 pub ends_beside : (held : Held) (root home : Option Folder) (place script : MapPlace) (text : List ℕ)

@@ -1,7 +1,7 @@
 -- What a file gives for a map: itself, or the map that it names where it is a script or a style sheet
 -- (ECMA-426, "Linking generated code to source maps").
-use Rattle.std.specs.Prelude.{◌≡◌, ◌⊎◌, ℕ, ◌-◌, ◌==◌, ◌&&◌, false, not, nat_eq}
-use Rattle.std.specs.Prelude.{List, [], ◌++◌, codes, cond, drop, length, take, ⊤}
+use Rattle.std.specs.Prelude.{◌≡◌, ◌⊎◌, ℕ, ◌-◌, ◌==◌, ◌&&◌, Bool, false, true, not, nat_eq}
+use Rattle.std.specs.Prelude.{List, [], codes, cond, drop, length, take, ⊤}
 use Rattle.std.specs.Prelude.{Option, Some, None, option_and_then, option_map, unwrap_or, Result, Ok, Err}
 use Rattle.std.specs.Prelude.{IsErr}
 use Rattle.std.specs.List.{starts_with, suffix_len}
@@ -142,17 +142,17 @@ folder_path file = unwrap_or (option_map (λ split. or_root split.0) (rsplit_onc
 abbrev pub own_folder : MapPlace → Folder
 own_folder place = record { url = folder_url (bare place.script); path = folder_path place.file }
 
--- How wide the lines of a text are, in the units of a script's positions; those of other files aren't counted.
-abbrev pub widths_by : FileKind → List ℕ → Option (List ℕ)
-widths_by Script text = script_widths text
-widths_by StyleSheet text = None
-widths_by Map text = None
-widths_by Other text = None
+-- Its lines are counted: those of style sheets end otherwise.
+abbrev pub has_lines : FileKind → Bool
+has_lines Script = true
+has_lines StyleSheet = false
+has_lines Map = false
+has_lines Other = false
 
 -- How wide the lines of a script are, if it was found in a folder: its map ends there.
 abbrev pub ends_of : Option Folder → List ℕ → List ℕ → Option (List ℕ)
 ends_of None script text = None
-ends_of (Some folder) script text = widths_by (file_kind script) text
+ends_of (Some folder) script text = cond (has_lines (file_kind script)) (script_widths text) None
 
 -- The folder in which a script was found, or else its own.
 abbrev pub folder_for : Option Folder → MapPlace → Folder

@@ -1,7 +1,7 @@
 -- What each argument names, by what stands under the names of files, as far as the disk says so.
 use Rattle.std.specs.Prelude.{◌≡◌, ◌≢◌, true, ◌<◌, ◌≤◌, ◌-◌, length, slice_index, ◌⊎◌, ℕ, ◌+◌, Bool, false}
 use Rattle.std.specs.Prelude.{List, [], ◌∷◌, codes, slice_range, take}
-use Rattle.std.specs.Prelude.{None, Option, Some, cond, ◌==◌, ⊤, string_bytes, string_cmp, String}
+use Rattle.std.specs.Prelude.{None, Option, Some, ⊤, string_bytes, string_cmp, String}
 use Rattle.std.specs.Global.{Global}
 use Rattle.std.specs.List.{All, list_any}
 use Rattle.std.specs.List.Sorted.{IsSorted}

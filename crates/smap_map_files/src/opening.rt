@@ -1,6 +1,7 @@
 //! The map that a file is, holds or names.
 ghost use Rattle.std.specs.Prelude.{◌≡◌, ◌<◌, ◌≤◌, cond, IfOk, IfSome, IsSome, MatchOption, None};
 ghost use Rattle.smap_system.specs.Held.{IsHeld};
+ghost use Rattle.smap_link.specs.Kinds.{file_kind as spec_kind};
 ghost use Rattle.smap_map_files.specs.Given as spec;
 ghost use Rattle.smap_map_files.specs.Given.{IsContent, IsLoadedTo, IsRead, IsReadTo, ended_loaded};
 ghost use Rattle.smap_map_files.specs.Opened.{AreEnds, GivesNone, IsFollowedUp, IsLeftOut, IsLink, IsOpened};
@@ -77,6 +78,13 @@ fn given_base(alloc: Global, subject: &Subject<'_>, base: Vec<u8>) -> Result<Vec
     Ok(base)
 }
 
+/// Whether a file's name is that of a script, in whose units positions are counted.
+fn is_script(name: &[u8]) -> bool
+    ensures { result ≡ spec.has_lines (spec_kind name.now) }
+{
+    matches!(file_kind(name), FileKind::Script)
+}
+
 /// How wide the lines of a script are that was found in a folder, if they can be counted: its map ends there.
 fn ends_of(
     alloc: Global,
@@ -86,21 +94,17 @@ fn ends_of(
     ensures { IfOk result (λ ends. widths_in ends
         ≡ spec.ends_of (folder_of subject.now.root) subject.now.place.file.items text.now) }
 {
-    if subject.root.is_none() {
+    let Some(_) = subject.root else {
         return Ok(None);
+    };
+    if is_script(&subject.place.file) {
+        return script_widths(alloc, text);
     }
-    match file_kind(&subject.place.file) {
-        FileKind::Script => script_widths(alloc, text),
-        FileKind::StyleSheet | FileKind::Map | FileKind::Other => Ok(None),
-    }
+    Ok(None)
 }
 
 /// What was loaded, as that of a script whose lines are so wide, if that is known.
-fn ended(
-    alloc: Global,
-    loaded: Loaded,
-    ends: &Option<Vec<usize>>,
-) -> Result<Loaded, AllocError>
+fn ended(alloc: Global, loaded: Loaded, ends: &Option<Vec<usize>>) -> Result<Loaded, AllocError>
     ensures { IfOk result (λ it. it ≡ ended_loaded (widths_in ends.now) loaded) }
 {
     let Some(widths) = ends else {
@@ -282,6 +286,39 @@ fn map_in<E: Eprint + AllocGlobal, D: Disk>(
     }
 }
 
+/// The map of a script of which nothing else is known: the one that it names, or none if it is left out.
+fn script_loaded<E: Eprint + AllocGlobal, D: Disk>(
+    host: &Host<'_, E, D>,
+    store: &mut FileStore<'_, D>,
+    how: How,
+    subject: &Subject<'_>,
+    text: Vec<u8>,
+) -> Result<Option<(Place, Loaded)>, Stop>
+    requires { IsHeld (D.held store.old.disk.now) subject.now.place.file.items text.items }
+    ensures reached { IfOk result (λ found. MatchOption found
+        (IsLeftOut (D.held store.old.disk.now) (folder_of subject.now.root) (place_in subject.now.place))
+        (λ f. IsFollowedUp subject.now.url_bytes (D.held store.old.disk.now) (folder_of subject.now.root)
+        subject.now.has_base (place_in subject.now.place) f.1)) }
+    ensures held { D.held store.new.disk.now ≡ D.held store.old.disk.now }
+{
+    let ends = ends_of(host.alloc(), subject, &text)?;
+    map_of_script(host, store, how, subject, text, &ends)
+}
+
+/// The map that these bytes of a file are, whose script's lines are so wide, if that is known.
+fn itself_ended(
+    alloc: Global,
+    subject: &Subject<'_>,
+    bytes: &[u8],
+    ends: &Option<Vec<usize>>,
+) -> Result<Loaded, AllocError>
+    ensures { IfOk result (IsReadTo subject.now.url_bytes subject.now.place.base.items bytes.now
+        (widths_in ends.now)) }
+{
+    let loaded = loaded_from(alloc, bytes, &subject.place.base, subject.url_bytes, true)?;
+    Ok(ended(alloc, loaded, ends)?)
+}
+
 /// Takes what a file holds for a map, ended as the script next to it is, follows a script to its map, or says
 /// what is wrong.
 fn settle_content<E: Eprint + AllocGlobal, D: Disk>(
@@ -305,17 +342,12 @@ fn settle_content<E: Eprint + AllocGlobal, D: Disk>(
     ensures held { D.held store.new.disk.now ≡ D.held store.old.disk.now }
 {
     match content {
-        Content::Script(text) => {
-            let own = ends_of(host.alloc(), subject, &text)?;
-            match map_of_script(host, store, how, subject, text, &own)? {
-                Some((place, loaded)) => map_in(host, &place, loaded, worst),
-                None => Ok(None),
-            }
-        }
+        Content::Script(text) => match script_loaded(host, store, how, subject, text)? {
+            Some((place, loaded)) => map_in(host, &place, loaded, worst),
+            None => Ok(None),
+        },
         Content::Bytes(bytes) => {
-            let base = &subject.place.base;
-            let loaded = loaded_from(host.alloc(), &bytes, base, subject.url_bytes, true)?;
-            let loaded = ended(host.alloc(), loaded, ends)?;
+            let loaded = itself_ended(host.alloc(), subject, &bytes, ends)?;
             map_in(host, &subject.place, loaded, worst)
         }
         Content::Unread(why) => map_in(host, &subject.place, Loaded::Broken(why), worst),

@@ -2,8 +2,8 @@
 //! `tests/rows/smap-maps-lint.rows`.
 use crate::asserted::{equal, holds};
 use smap_lint_rules::{Check, RULES, rule_named};
-use smap_mappings::line_widths;
 use smap_lint_run::{LintAsked, lint};
+use smap_mappings::line_widths;
 use smap_report::Format;
 use smap_system::{Host, Watched};
 use smap_testing::MemoryDisk;

@@ -96,7 +96,7 @@ bare_found l widths line column (t ∷ ts) le h =
     let some = some_end l widths line column t (slice_get ts 0) rest le h more.1 in
     rw (with_end l line column o (ended widths ts)) (
       past_kept l widths line column t (found_end l line column rest o)
-      (past_end l widths line column t (slice_get ts 0) rest le h more.0) some,
+          (past_end l widths line column t (slice_get ts 0) rest le h more.0) some,
       λ on. some_found line column (found_end l line column rest o) (mapping_of l (kept widths t)) (some on),
     )
 
