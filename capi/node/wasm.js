@@ -1,0 +1,27 @@
+'use strict';
+// The library as WebAssembly, for Node.
+const fs = require('node:fs');
+const path = require('node:path');
+const v8 = require('node:v8');
+const { callsOf } = require('./calls.js');
+const host = require('./host.js');
+
+// A module that has nothing but a memory with 64-bit addresses.
+const WIDE = Uint8Array.of(0, 0x61, 0x73, 0x6d, 1, 0, 0, 0, 5, 3, 1, 4, 1);
+
+// Node before 24 has such memories behind a flag, which may still be set here. It is taken back, since workers
+// would not take Node's own compiled code under other flags.
+function compile(bytes) {
+  const isWide = WebAssembly.validate(WIDE);
+  if (!isWide) v8.setFlagsFromString('--experimental-wasm-memory64');
+  try {
+    return new WebAssembly.Module(bytes);
+  } finally {
+    if (!isWide) v8.setFlagsFromString('--no-experimental-wasm-memory64');
+  }
+}
+
+// tools/build-wasm puts it into the folder out, as build.sh does the addon.
+const files = [path.join(__dirname, 'out', 'smap.wasm'), path.join(__dirname, 'smap.wasm')];
+const file = files.find(fs.existsSync) ?? files[1];
+module.exports = callsOf(new WebAssembly.Instance(compile(fs.readFileSync(file))).exports, host);
