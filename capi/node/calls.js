@@ -63,7 +63,7 @@ function scriptsOf(given) {
 function callsOf(x, host) {
   let SmapError, makeBytes;
   const found = new Uint32Array(FOUND);
-  const native = {};
+  const native = { isWasm: true };
 
   // ---- calls that don't return, as where JavaScript's stack, on which they run, has no room left
 
@@ -218,6 +218,9 @@ function callsOf(x, host) {
     makeBytes = make;
     return found;
   };
+
+  // Up to which byte of the memory more is taken, for tests.
+  native.limit = bytes => call.limit(number(bytes));
 
   native.version = () => {
     const n = call.version();

@@ -18,7 +18,7 @@ function addon(file) {
 // What is missing for the addon is said where WebAssembly doesn't run either.
 function wasm(missing) {
   try {
-    return require('./wasm.js');
+    return require('./wasm.js').load();
   } catch (error) {
     throw missing ?? error;
   }

@@ -8,20 +8,30 @@ const host = require('./host.js');
 
 // A module that has nothing but a memory with 64-bit addresses.
 const WIDE = Uint8Array.of(0, 0x61, 0x73, 0x6d, 1, 0, 0, 0, 5, 3, 1, 4, 1);
+const FLAG = 'experimental-wasm-memory64';
 
 // Node before 24 has such memories behind a flag, which may still be set here. It is taken back, since workers
 // would not take Node's own compiled code under other flags.
 function compile(bytes) {
   const isWide = WebAssembly.validate(WIDE);
-  if (!isWide) v8.setFlagsFromString('--experimental-wasm-memory64');
+  if (!isWide) v8.setFlagsFromString(`--${FLAG}`);
   try {
     return new WebAssembly.Module(bytes);
   } finally {
-    if (!isWide) v8.setFlagsFromString('--no-experimental-wasm-memory64');
+    if (!isWide) v8.setFlagsFromString(`--no-${FLAG}`);
   }
 }
 
+/** The functions of a file, with a memory of its own. */
+function instance(file) {
+  return new WebAssembly.Instance(compile(fs.readFileSync(file))).exports;
+}
+
 // tools/build-wasm puts it into the folder out, as build.sh does the addon.
-const files = [path.join(__dirname, 'out', 'smap.wasm'), path.join(__dirname, 'smap.wasm')];
-const file = files.find(fs.existsSync) ?? files[1];
-module.exports = callsOf(new WebAssembly.Instance(compile(fs.readFileSync(file))).exports, host);
+const built = path.join(__dirname, 'out', 'smap.wasm');
+const file = fs.existsSync(built) ? built : path.join(__dirname, 'smap.wasm');
+
+/** What native.js has, with a memory of its own. */
+const load = () => callsOf(instance(file), host);
+
+module.exports = { WIDE, file, instance, load };
