@@ -24,9 +24,10 @@ function started() {
 
 test('the calls are those of the addon', { skip: is.skip || isHere(addon, 'build.sh makes it').skip }, () => {
   const { native } = started();
-  const calls = all => Object.entries(all).map(([name, one]) => `${name} ${typeof one === 'number' ? one : ''}`);
+  const named = (name, one) => (typeof one === 'number' ? `${name} ${one}` : name);
+  const calls = all => Object.entries(all).map(([name, one]) => named(name, one));
   // Each has one for tests.
-  const of = (all, own) => calls(all).filter(name => !own.includes(name.trim())).sort();
+  const of = (all, own) => calls(all).filter(name => !own.includes(name)).sort();
   assert.deepEqual(of(native, ['isWasm', 'limit']), of(require(addon), ['told']));
 });
 
@@ -90,8 +91,7 @@ test('memory that ends: each call says so, and works once there is more', is, ()
   }
 });
 
-// Calls a function where JavaScript's stack has no room left, and then where there is ever more, and gives the
-// errors.
+// Calls a function where JavaScript's stack has no room left, then where it has ever more. Gives the errors.
 function whereStackEnds(call) {
   const errors = [];
   let calls = 0;
