@@ -8,7 +8,7 @@ async function moduleOf(from) {
 }
 
 /** The library, with a memory of its own: browser.d.mts says more. */
-export async function open(from = new URL('smap.wasm', import.meta.url)) {
+export async function open(from = new URL('./smap.wasm', import.meta.url)) {
   const instance = await WebAssembly.instantiate(await moduleOf(from));
   const loaded = {};
   const load = name => {
