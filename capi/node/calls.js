@@ -72,8 +72,11 @@ function callsOf(x, host) {
   const stack = x.__stack_pointer.value;
   let isBroken = false;
 
-  const asking = call => (a, b, c, d, e) => {
+  const checkState = () => {
     if (isBroken) throw coded(new Error('an earlier call of the library did not return'), 'SMAP_INTERNAL');
+  };
+  const asking = call => (a, b, c, d, e) => {
+    checkState();
     try {
       return call(a, b, c, d, e);
     } catch (error) {
@@ -82,7 +85,7 @@ function callsOf(x, host) {
     }
   };
   const changing = call => (a, b, c, d, e, f, g, h) => {
-    if (isBroken) throw coded(new Error('an earlier call of the library did not return'), 'SMAP_INTERNAL');
+    checkState();
     isBroken = true;
     try {
       const answer = call(a, b, c, d, e, f, g, h);
@@ -192,7 +195,6 @@ function callsOf(x, host) {
       call.done();
     }
   }
-  const toldString = code => (check(code), told(string));
   const toldBytes = code => (isThere(code) ? told(bytes) : null);
   const counted = n => Array.from({ length: n }, (_, i) => f64(COUNTS + 8 * i));
 
@@ -273,9 +275,9 @@ function callsOf(x, host) {
     return lastShared;
   };
 
-  native.take = number_ => {
-    const box = shared.get(number(number_)) ?? fail(CLOSED);
-    shared.delete(number_);
+  native.take = n => {
+    const box = shared.get(number(n)) ?? fail(CLOSED);
+    shared.delete(n);
     return mapOut(box);
   };
 
@@ -345,7 +347,10 @@ function callsOf(x, host) {
     };
   });
 
-  native.respell = text => toldString(withTexts([text], call.respell));
+  native.respell = text => {
+    check(withTexts([text], call.respell));
+    return told(string);
+  };
 
   // ---- traces
 
@@ -388,8 +393,8 @@ function callsOf(x, host) {
   native.scriptName = (folder, url) => toldBytes(withTexts([folder, url], call.script_name));
 
   native.normalForm = (name, query) => {
-    const with_ = flag(query) ? 1 : 0;
-    return toldBytes(withTexts([name], (to, n) => call.normal_form(to, n, with_)));
+    const withQuery = flag(query) ? 1 : 0;
+    return toldBytes(withTexts([name], (to, n) => call.normal_form(to, n, withQuery)));
   };
 
   native.scriptLink = (text, css) => {
