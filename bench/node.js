@@ -1,11 +1,11 @@
 'use strict';
 // Times the package for Node beside other readers of source maps.
 //
-//     capi/node/build.sh capi/out
+//     capi/node/build.sh capi/out && tools/build-wasm
 //     NODE_PATH=/usr/share/nodejs node bench/node.js [--runs N] [--into docs/PERFORMANCE.md]
 //
-// The others are @jridgewell/trace-mapping and source-map, where NODE_PATH has them, and Node's own
-// module.SourceMap. For maps of three sizes, made by make_map.py, it prints a table: opening with the first
+// The package is timed over its addon, and over WebAssembly. The others are @jridgewell/trace-mapping and
+// source-map, where NODE_PATH has them, and Node's own module.SourceMap. What isn't there is left out. For maps of three sizes, made by make_map.py, it prints a table: opening with the first
 // lookup, since others decode then, in a fresh process and in a warm one; lookups at random positions and at
 // rising ones, after 150,000 others; all mappings; and how much the process grows up to the first lookup.
 // Each figure is the best of N processes, 3 unless given. A second table, in wall-clock time, has the parts of
@@ -33,6 +33,22 @@ const WARM = 1000; // and for opening again, within which the collector of each 
 
 const ours = name => require(path.join(PACKAGE, name));
 
+// Over WebAssembly, in a process that has loaded nothing of the package.
+function wasm() {
+  fs.accessSync(ours('wasm.js').file);
+  process.env.SMAP_WASM = '1';
+  const library = ours('index.js');
+  delete process.env.SMAP_WASM;
+  return library;
+}
+
+const lookups = ({ SourceMap }) => ({
+  open: (text, bytes) => new SourceMap(bytes, URL_OF_MAP),
+  lookup: (map, line, column) => map.lookup(line, column),
+  all: (map, call) => map.forEach(call),
+  close: map => map.close(),
+});
+
 function traceMapping(T) {
   return {
     open: text => new T.TraceMap(text, URL_OF_MAP),
@@ -51,15 +67,8 @@ function sourceMap({ SourceMapConsumer }) {
 }
 
 const READERS = {
-  '`smap`, `lookup`': () => {
-    const { SourceMap } = ours('index.js');
-    return {
-      open: (text, bytes) => new SourceMap(bytes, URL_OF_MAP),
-      lookup: (map, line, column) => map.lookup(line, column),
-      all: (map, call) => map.forEach(call),
-      close: map => map.close(),
-    };
-  },
+  '`smap`, `lookup`': () => lookups(ours('index.js')),
+  '`smap`, `lookup`, as WebAssembly': () => lookups(wasm()),
   '`smap`, `table().find`': () => {
     const { SourceMap } = ours('index.js');
     return {

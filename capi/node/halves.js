@@ -1,7 +1,7 @@
 'use strict';
 // Strings with half surrogate pairs, as bytes: each half is spelled like any other code point (WTF-8). The
 // library refuses them where it wants UTF-8, and passes on byte for byte what isn't a frame.
-const { constants } = require('node:buffer');
+const host = require('./host.js');
 
 // With the flag u, \p{Surrogate} is half a pair.
 const HALF = /\p{Surrogate}/u;
@@ -12,7 +12,7 @@ const isWellFormed = ''.isWellFormed ? text => text.isWellFormed() : text => !HA
 /** The bytes of a string: UTF-8 if it is well-formed. */
 function spelled(text) {
   // A half is U+FFFD there, which has three bytes as well.
-  const bytes = Buffer.from(text);
+  const bytes = host.encode(text);
   if (isWellFormed(text)) return bytes;
   for (let i = 0, at = 0; i < text.length; i++) {
     const point = text.codePointAt(i);
@@ -56,12 +56,12 @@ function unspelled(bytes) {
 
 function stringOf(units, length) {
   checkLength(length);
-  return Buffer.from(units.buffer, 0, 2 * length).toString('utf16le');
+  return host.decodeUnits(units, length);
 }
 
 /** Throws for what is longer than a string can be, in code units, or in bytes. */
 function checkLength(length) {
-  if (length <= constants.MAX_STRING_LENGTH) return;
+  if (length <= host.MAX_STRING_LENGTH) return;
   throw Object.assign(new RangeError('longer than a string can be'), { code: 'SMAP_TOO_LONG' });
 }
 

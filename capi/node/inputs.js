@@ -1,18 +1,18 @@
 'use strict';
 // Texts, names and bytes that users pass, as the addon takes them: strings without lone surrogates, and
 // Buffers.
-const { types } = require('node:util');
 const { isWellFormed, spelled } = require('./halves.js');
+const host = require('./host.js');
 
-const isBytes = given => ArrayBuffer.isView(given) || types.isAnyArrayBuffer(given);
+const isBytes = given => ArrayBuffer.isView(given) || host.isAnyArrayBuffer(given);
 
 /** Bytes that no other thread writes. */
 function bytesOf(view) {
-  const { buffer, byteOffset, byteLength } = types.isAnyArrayBuffer(view)
+  const { buffer, byteOffset, byteLength } = host.isAnyArrayBuffer(view)
     ? { buffer: view, byteOffset: 0, byteLength: view.byteLength }
     : view;
-  const bytes = Buffer.from(buffer, byteOffset, byteLength);
-  return types.isSharedArrayBuffer(buffer) ? Buffer.from(bytes) : bytes;
+  const bytes = host.view(buffer, byteOffset, byteLength);
+  return host.isSharedArrayBuffer(buffer) ? host.copy(bytes) : bytes;
 }
 
 /** A string; one that isn't UTF-8 as bytes, of which the library says that. */

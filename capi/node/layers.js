@@ -1,5 +1,5 @@
 'use strict';
-// What takes the place of another package. Where the addon can't be loaded, that package itself stands there.
+// What takes the place of another package. Where the library can't be loaded, that package itself stands there.
 
 // The version of a package, or null if it isn't installed.
 function versionOf(name) {
@@ -11,7 +11,7 @@ function versionOf(name) {
 }
 
 /**
- * The module that `load` gives; or without the addon the package that it stands for, in a version that begins
+ * The module that `load` gives; or without the library the package that it stands for, in a version that begins
  * with `version`. Where that is missing too, the error says so.
  */
 function layer(load, name, version = '') {

@@ -1,10 +1,10 @@
 'use strict';
 // Which map belongs to a script. The rules are the library's, and docs/LINKING.md has them; native/links.c
 // asks it. index.d.ts says what each function does.
-const { isUtf8 } = require('node:buffer');
 const native = require('./native.js');
 const { SmapError } = require('./errors.js');
 const { checkLength } = require('./halves.js');
+const host = require('./host.js');
 const { textOf } = require('./inputs.js');
 
 const nameIn = given => textOf(given instanceof URL ? given.href : given, 'a name');
@@ -12,9 +12,9 @@ const nameIn = given => textOf(given instanceof URL ? given.href : given, 'a nam
 // A string, or the bytes if they are asked for: those of a percent-encoded name may be any.
 function told(bytes, asBuffer = false) {
   if (bytes === null || asBuffer) return bytes;
-  if (!isUtf8(bytes)) throw new SmapError('SMAP_NOT_UTF8', 'not UTF-8');
+  if (!host.isUtf8(bytes)) throw new SmapError('SMAP_NOT_UTF8', 'not UTF-8');
   checkLength(bytes.length);
-  return bytes.toString();
+  return host.decode(bytes);
 }
 
 function scriptLink(text, { css = false, buffer = false } = {}) {

@@ -212,9 +212,12 @@ npm_leaves_platform_out() {
     set -- --os=darwin --cpu=arm64
     with_npm npm ci "$@" && ! [ -e "$project/node_modules/smap-linux-x64" ] || return 1
     echo 'Object.defineProperty(process, "platform", { value: "darwin" })' >"$project/mac.cjs"
+    says_it='smap/register: smap runs on .*, and this is darwin-x64: .*'
     (cd "$project/programs" && node --require ../mac.cjs --require smap/register thrown.js 2>written
-        grep -x 'smap/register: smap runs on .*, and this is darwin-x64: .*' written &&
-            grep -F "at f ($PWD/a.ts:3:7)" written) || return 1
+        grep -F "at f ($PWD/a.ts:3:7)" written || return 1
+        grep -x "$says_it" written
+        [ "$?" -eq "$([ -e ../node_modules/smap/smap.wasm ] && echo 1 || echo 0)" ]) || return 1
+    [ ! -e "$project/node_modules/smap/smap.wasm" ] || npm_runs_programs || return 1
     (cd "$project" && rm -rf node_modules package-lock.json && echo '{"private":true}' >package.json) &&
         with_npm npm install "$@" "./${npm_tgz##*/}" && ! [ -e "$project/node_modules/smap-linux-x64" ] &&
         with_npm npm ci && [ "$(cd "$project" && node -p "require('smap').version")" = "$library_version" ]

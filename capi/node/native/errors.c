@@ -1,20 +1,6 @@
 /* Errors, which are thrown as JavaScript objects. */
 #include "smap_node.h"
 
-static const char *const codes[] = {
-    [SMAP_OK] = "SMAP_OK",
-    [SMAP_REFUSED] = "SMAP_REFUSED",
-    [SMAP_NOT_URL] = "SMAP_NOT_URL",
-    [SMAP_LIMITS] = "SMAP_LIMITS",
-    [SMAP_MEMORY] = "SMAP_MEMORY",
-    [SMAP_CLOSED] = "SMAP_CLOSED",
-    [SMAP_NONE] = "SMAP_NONE",
-    [SMAP_RANGE] = "SMAP_RANGE",
-    [SMAP_URL_BYTES] = "SMAP_URL_BYTES",
-    [SMAP_NOT_BASE64] = "SMAP_NOT_BASE64",
-    [SMAP_NOT_UTF8] = "SMAP_NOT_UTF8",
-};
-
 napi_value failed(napi_env env)
 {
     bool pending = false;
@@ -32,8 +18,7 @@ napi_value failed(napi_env env)
 static napi_value put_fault(napi_env env, const smap_fault *fault, napi_value *words)
 {
     char kind[32];
-    size_t len = fault->text_len < sizeof fault->text ? fault->text_len : sizeof fault->text - 1;
-    CALL(napi_create_string_utf8(env, fault->text, len, &words[1]));
+    CALL(napi_create_string_utf8(env, fault->text, fault_len(fault), &words[1]));
     size_t kind_len = smap_fault_name(fault->kind, kind, sizeof kind);
     if (kind_len && kind_len <= sizeof kind) CALL(napi_create_string_utf8(env, kind, kind_len, &words[2]));
     if (fault->has_place) {
@@ -47,7 +32,7 @@ static napi_value put_fault(napi_env env, const smap_fault *fault, napi_value *w
 static napi_value section_out(napi_env env, const smap_fault *fault)
 {
     uint64_t section[8];
-    uint32_t depth = fault->depth < 8 ? (uint32_t)fault->depth : 8;
+    uint32_t depth = fault_depth(fault);
     for (uint32_t i = 0; i < depth; i++) section[i] = fault->section[i];
     return numbers_out(env, section, depth);
 }
@@ -57,11 +42,10 @@ napi_value throw_code(napi_env env, uint32_t code, const smap_fault *fault)
 {
     thread_data *own = NULL;
     napi_value words[7], class, error;
-    const char *name = code < sizeof codes / sizeof *codes ? codes[code] : "SMAP_UNKNOWN";
     CALL(napi_get_instance_data(env, (void **)&own));
     CALL(napi_get_null(env, &words[2]));
     words[3] = words[4] = words[5] = words[6] = words[2];
-    CALL(napi_create_string_utf8(env, name, NAPI_AUTO_LENGTH, &words[0]));
+    CALL(napi_create_string_utf8(env, code_of(code), NAPI_AUTO_LENGTH, &words[0]));
     if (code == SMAP_REFUSED && fault) {
         if (!put_fault(env, fault, words)) return NULL;
         words[6] = section_out(env, fault);

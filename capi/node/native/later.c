@@ -41,7 +41,7 @@ static void open_ends(napi_env env, napi_status status, void *at)
         if (o->code == SMAP_OK) {
             boxed_map *boxed = o->boxed;
             o->boxed = NULL;
-            out = map_out(env, boxed, held_by(&boxed->map));
+            out = map_out(env, boxed, (int64_t)held_by(&boxed->map));
         } else {
             throw_code(env, o->code, &o->fault);
         }

@@ -114,12 +114,6 @@ napi_value map_out(napi_env env, boxed_map *boxed, int64_t held)
     return handle;
 }
 
-int64_t held_by(smap_map *map)
-{
-    size_t bytes = 0;
-    return smap_held(map, &bytes) == SMAP_OK ? (int64_t)bytes : 0;
-}
-
 /* ---- opening and closing */
 
 bool url_bytes_of(napi_env env, napi_value value, int64_t *url_bytes)
@@ -136,8 +130,7 @@ bool url_bytes_of(napi_env env, napi_value value, int64_t *url_bytes)
 uint32_t open_map(smap_map *map, const text_in *text, const text_in *url, const smap_limits *limits,
                   int64_t url_bytes, smap_fault *fault)
 {
-    if (url_bytes < 0) return smap_open(map, text->at, text->len, url->at, url->len, limits, fault);
-    return smap_open_within(map, text->at, text->len, url->at, url->len, limits, (size_t)url_bytes, fault);
+    return open_within(map, text->at, text->len, url->at, url->len, limits, url_bytes, fault);
 }
 
 /* Leaves in `found` whether a text that is given as a string may have a word in it. */
@@ -152,8 +145,8 @@ static bool look_for(napi_env env, const text_in *text, napi_value value)
     return true;
 }
 
-/* open(text, url, items, lines, urlBytes, word): a handle. If a word is given, `found` has whether the text may have
- * it, which is sooner found out here than in JavaScript. */
+/* open(text, url, items, lines, urlBytes, word): a handle. If a word is given, `found` has whether the text may
+ * have it, which is sooner found out here than in JavaScript. */
 static napi_value do_open(napi_env env, napi_callback_info info)
 {
     text_in text, url;
@@ -178,7 +171,7 @@ static napi_value do_open(napi_env env, napi_callback_info info)
     bool is_done = kind == napi_undefined || code != SMAP_OK || look_for(env, &text, w[5]);
     text_done(&text);
     text_done(&url);
-    if (code == SMAP_OK && is_done) return map_out(env, boxed, held_by(&boxed->map));
+    if (code == SMAP_OK && is_done) return map_out(env, boxed, (int64_t)held_by(&boxed->map));
     if (code == SMAP_OK) smap_close(&boxed->map);
     free(boxed);
     return is_done ? throw_code(env, code, &fault) : NULL;
@@ -222,15 +215,13 @@ static napi_value do_same(napi_env env, napi_callback_info info)
 {
     bool same = false;
     napi_value out;
-    smap_counts counts;
     ARGUMENTS(2);
     boxed_map *one = map_of(env, w[0]);
     boxed_map *other = one ? map_of(env, w[1]) : NULL;
     if (!other) return NULL;
-    /* The two have to be different handles. */
-    uint32_t code = one == other ? smap_count(&one->map, &counts) : smap_same(&one->map, &other->map, &same);
+    uint32_t code = are_same(&one->map, &other->map, &same);
     if (code != SMAP_OK) return throw_code(env, code, NULL);
-    CALL(napi_get_boolean(env, same || one == other, &out));
+    CALL(napi_get_boolean(env, same, &out));
     return out;
 }
 

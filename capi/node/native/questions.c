@@ -1,75 +1,22 @@
 /* What is asked of maps. */
 #include "smap_node.h"
 
-/* A mapping, by its number, in the array that index.js reads: line, column, source, source line, source
- * column; as bits whether it has a source, a name, and is ignored; the number; and the listed name. */
-static uint32_t put_found(smap_map *map, size_t i, uint32_t *found)
-{
-    smap_mapping m;
-    smap_listed_mapping listed;
-    uint32_t code = smap_token(map, i, &m);
-    if (code == SMAP_OK) code = smap_listed_token(map, i, &listed);
-    if (code != SMAP_OK) return code;
-    found[0] = m.line;
-    found[1] = m.column;
-    found[2] = (uint32_t)m.source;
-    found[3] = m.source_line;
-    found[4] = m.source_column;
-    found[5] = (uint32_t)m.has_source | (uint32_t)m.has_name << 1 | (uint32_t)m.is_ignored << 2;
-    found[6] = (uint32_t)i;
-    found[7] = listed.name;
-    return SMAP_OK;
-}
-
 /* lookup(map, line, column): whether there is a mapping. It is in `found` then. */
 static napi_value do_lookup(napi_env env, napi_callback_info info)
 {
     thread_data *own;
-    uint32_t line, column;
+    uint32_t line, column, unread[FOUND];
     napi_value out, w[3];
-    size_t wn = 3, i;
+    size_t wn = 3;
     CALL(napi_get_cb_info(env, info, &wn, w, NULL, (void **)&own));
     boxed_map *boxed = map_of(env, w[0]);
     if (!boxed) return NULL;
     CALL(napi_get_value_uint32(env, w[1], &line));
     CALL(napi_get_value_uint32(env, w[2], &column));
-    uint32_t code = smap_find(&boxed->map, line, column, &i);
-    if (code == SMAP_OK && own->found) code = put_found(&boxed->map, i, own->found);
+    uint32_t code = look_up(&boxed->map, line, column, own->found ? own->found : unread);
     if (code != SMAP_OK && code != SMAP_NONE) return throw_code(env, code, NULL);
     CALL(napi_get_boolean(env, code == SMAP_OK, &out));
     return out;
-}
-
-/* A mapping of the listing, in the same array: line, column, listed source, its line and column, listed name;
- * UINT32_MAX for no source or name. */
-static void put_listed(const smap_listed_mapping *m, uint32_t *found)
-{
-    found[0] = m->line;
-    found[1] = m->column;
-    found[2] = m->has_source ? m->source : UINT32_MAX;
-    found[3] = m->source_line;
-    found[4] = m->source_column;
-    found[5] = m->has_name ? m->name : UINT32_MAX;
-}
-
-/* Of the mappings at the i-th one's position, the first. There may be many, but mostly the one before is
- * elsewhere, so that is asked for first. */
-static uint32_t first_there(smap_map *map, size_t i, smap_listed_mapping *m)
-{
-    smap_listed_mapping one;
-    size_t from = 0, middle = i - 1;
-    while (from < i) {
-        uint32_t code = smap_listed_token(map, middle, &one);
-        if (code != SMAP_OK) return code;
-        if (one.line == m->line && one.column == m->column) {
-            *m = one;
-            i = middle;
-        } else {
-            from = middle + 1;
-        }
-        middle = from + (i - from) / 2;
-    }
-    return SMAP_OK;
 }
 
 /* listedAt(map, line, column): whether there is a mapping, of the listing, and the first of those that are at
@@ -77,22 +24,17 @@ static uint32_t first_there(smap_map *map, size_t i, smap_listed_mapping *m)
 static napi_value do_listed_at(napi_env env, napi_callback_info info)
 {
     thread_data *own;
-    uint32_t line, column;
+    uint32_t line, column, unread[FOUND];
     napi_value out, w[3];
-    size_t wn = 3, i;
-    smap_listed_mapping m;
+    size_t wn = 3;
     CALL(napi_get_cb_info(env, info, &wn, w, NULL, (void **)&own));
     boxed_map *boxed = map_of(env, w[0]);
     if (!boxed) return NULL;
     CALL(napi_get_value_uint32(env, w[1], &line));
     CALL(napi_get_value_uint32(env, w[2], &column));
-    uint32_t code = smap_find(&boxed->map, line, column, &i);
-    if (code == SMAP_OK) code = smap_listed_token(&boxed->map, i, &m);
-    bool is_found = code == SMAP_OK;
-    if (is_found && m.column == column) code = first_there(&boxed->map, i, &m);
+    uint32_t code = listed_at(&boxed->map, line, column, own->found ? own->found : unread);
     if (code != SMAP_OK && code != SMAP_NONE) return throw_code(env, code, NULL);
-    if (is_found && own->found) put_listed(&m, own->found);
-    CALL(napi_get_boolean(env, is_found, &out));
+    CALL(napi_get_boolean(env, code == SMAP_OK, &out));
     return out;
 }
 
@@ -185,15 +127,8 @@ static napi_value do_flags(napi_env env, napi_callback_info info)
     MAP_AND(3);
     CALL(napi_get_value_uint32(env, w[1], &which));
     if (!words_of(env, w[2], &to, &count)) return NULL;
-    for (size_t i = 0; i < count; i++) {
-        bool ignored = false;
-        size_t source = 0;
-        uint32_t code = which ? smap_listed_source(&boxed->map, i, &source)
-                              : smap_is_ignored(&boxed->map, i, &ignored);
-        if (code != SMAP_OK) return throw_code(env, code, NULL);
-        to[i] = which ? (uint32_t)source : ignored;
-    }
-    return NULL;
+    uint32_t code = put_flags(&boxed->map, which, to, 0, count);
+    return code == SMAP_OK ? NULL : throw_code(env, code, NULL);
 }
 
 /* table(map, to): the mappings of the listing as six columns one after another. As many as there is room
@@ -204,16 +139,8 @@ static napi_value do_table(napi_env env, napi_callback_info info)
     uint32_t *to;
     MAP_AND(2);
     if (!words_of(env, w[1], &to, &n)) return NULL;
-    n /= 6;
-    for (size_t i = 0; i < n; i++) {
-        uint32_t row[6];
-        smap_listed_mapping m;
-        uint32_t code = smap_listed_token(&boxed->map, i, &m);
-        if (code != SMAP_OK) return throw_code(env, code, NULL);
-        put_listed(&m, row);
-        for (size_t k = 0; k < 6; k++) to[i + k * n] = row[k];
-    }
-    return NULL;
+    uint32_t code = put_table(&boxed->map, to, 0, n / 6);
+    return code == SMAP_OK ? NULL : throw_code(env, code, NULL);
 }
 
 /* ---- what is written */

@@ -16,7 +16,7 @@
 #include <stdlib.h>
 #include <string.h>
 
-#include "smap.h"
+#include "library.h"
 
 typedef struct boxed_map boxed_map;
 
@@ -29,8 +29,6 @@ typedef struct thread_data {
     boxed_map *first; /* the maps of this thread's handles */
     napi_ref witness; /* a weak reference to an object that nothing else has: the next collection takes it */
 } thread_data;
-
-enum { FOUND = 8 };
 
 /* What a handle of index.js points to. The tag comes first, so that neither kind is taken for the other. */
 enum { MAP_TAG = 0x70616d73, SCRIPTS_TAG = 0x72637373 };
@@ -130,9 +128,6 @@ bool url_bytes_of(napi_env env, napi_value value, int64_t *url_bytes);
 /* Opens a map within such a bound. */
 uint32_t open_map(smap_map *map, const text_in *text, const text_in *url, const smap_limits *limits,
                   int64_t url_bytes, smap_fault *fault);
-
-/* How many bytes an open map holds, about. */
-int64_t held_by(smap_map *map);
 
 /* Tells V8 that so many bytes more, or fewer, hang on its objects: it sees some ten bytes of a handle, and
  * would have no reason to collect it. */

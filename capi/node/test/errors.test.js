@@ -102,7 +102,7 @@ const words = name => name.toLowerCase().replace(/(^|_)([a-z])/g, (_, __, letter
 
 test('the names of kinds and codes are those of the header', is, () => {
   const text = fs.readFileSync(header, 'utf8');
-  const source = fs.readFileSync(path.join(__dirname, '..', 'native', 'errors.c'), 'utf8');
+  const source = fs.readFileSync(path.join(__dirname, '..', 'native', 'library.h'), 'utf8');
   const types = fs.readFileSync(path.join(__dirname, '..', 'index.d.ts'), 'utf8');
   const kinds = [...text.matchAll(/^ {4}SMAP_FAULT_([A-Z_]+) = \d+/gm)].map(match => match[1]);
   assert.ok(kinds.includes('PREFIX'));

@@ -22,7 +22,7 @@ test('the addon is given anything', () => {
   const rest = [[], [0, 0], [Buffer.alloc(1), 0], ['x', true]];
   let thrown = 0;
   for (const [name, call] of Object.entries(native)) {
-    if (name === 'start') continue;
+    if (['start', 'limit'].includes(name)) continue;
     for (const one of words()) {
       for (const other of words()) {
         for (const more of rest) {

@@ -10,6 +10,7 @@ const {
 } = require('smap');
 const { numbers } = require('./many-maps.js');
 const { isQuick } = require('./quick.js');
+const native = require('../native.js');
 
 const refuses = (code, call) => assert.throws(call, error => {
   assert.deepEqual([error.code, error.kind, error.line], [code, null, null], `${call}: ${error}`);
@@ -143,7 +144,9 @@ test('what is no UTF-8 is passed over, unless the URL has it', () => {
   assert.equal(scriptLink('f()', { buffer: true }), null);
 });
 
-test('only the end of a large script is looked at', () => {
+const inPlace = { skip: native.isWasm ? 'WebAssembly: a text is copied into its memory' : false };
+
+test('only the end of a large script is looked at', inPlace, () => {
   const text = Buffer.alloc(5e7, 'f();\n');
   text.write(`\n${COMMENT}\n`, text.length - COMMENT.length - 2);
   // Under the sanitizers bounds.c reads all of it.

@@ -49,7 +49,9 @@ test('maps that are closed in a loop are freed, without the event loop', collect
   assert.ok(grown < 40, `${grown} MB`);
 });
 
-test('maps that are forgotten in a loop are freed, without the event loop', () => {
+const turns = { skip: native.isWasm ? 'WebAssembly: handles are collected as the event loop turns' : false };
+
+test('maps that are forgotten in a loop are freed, without the event loop', turns, () => {
   const sizes = [];
   for (let i = 0; i < 150; i++) {
     new SourceMap(large, BASE).lookup(0, 0);
@@ -75,7 +77,9 @@ test('what is refused, written and translated leaves nothing', collects, async (
   assert.ok(grown < 30, `${grown} MB`);
 });
 
-test('the collector is told what a map holds, until it is closed', collects, async () => {
+const tells = { skip: native.isWasm ? 'WebAssembly: the collector is told nothing' : collects.skip };
+
+test('the collector is told what a map holds, until it is closed', tells, async () => {
   const bytes = Buffer.from(large);
   const before = await told();
   const map = new SourceMap(bytes, BASE);
@@ -87,7 +91,7 @@ test('the collector is told what a map holds, until it is closed', collects, asy
   assert.ok(Math.abs((await told()) - before) < 2e5);
 });
 
-test('the collector is told what scripts hold, once a map by itself is closed too', collects, async () => {
+test('the collector is told what scripts hold, once a map by itself is closed too', tells, async () => {
   const bytes = Buffer.from(large);
   const map = new SourceMap(bytes, BASE);
   const held = map.heldBytes;

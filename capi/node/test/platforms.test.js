@@ -120,3 +120,32 @@ test('smap/source-map is no later version, which has another interface', () => {
   putPackage('source-map', '0.7.4');
   assert.match(onMac(said('smap/source-map')).out, /; nor is source-map 0\.6 installed/);
 });
+
+// ---- WebAssembly, which the package has for other systems
+
+const built = path.join(PACKAGE, 'out', 'smap.wasm');
+const wasm = { skip: fs.existsSync(built) ? false : 'no smap.wasm here: tools/build-wasm makes it' };
+const LOOKS_UP = `const { SourceMap } = require('smap');
+const text = '{"version":3,"sources":["a.js"],"mappings":"AAUE"}';
+console.log(new SourceMap(text, 'http://h/m/out.js.map').lookup(0, 3).source);`;
+
+for (const [where, message] of Object.entries(MISSING)) {
+  const preload = ['--require', inFolder(`${where}.js`)];
+
+  test(`the library runs as WebAssembly where there is no addon: ${where}`, wasm, () => {
+    fs.copyFileSync(built, inFolder('node_modules/smap/smap.wasm'));
+    const ended = run([...preload, '--eval', LOOKS_UP]);
+    assert.deepEqual(ended, { out: 'http://h/m/a.js\n', err: '', status: 0 });
+    const { out, err, status } = run([...preload, '--require', 'smap/register', 'dist/out.js']);
+    const [main, worker, ...more] = out.split('\n');
+    for (const line of [main, worker]) assert.match(line, /\/dist\/a\.ts:1[13]:\d+/);
+    assert.deepEqual([more, err, status], [[''], '', 0]);
+    const layers = LAYERS.map(([layer, name]) => `require('${layer}') === require('${name}')`);
+    assert.equal(run([...preload, '--eval', `console.log(${layers})`]).out, 'false false false\n');
+  });
+
+  test(`what is missing is said where WebAssembly doesn't run either: ${where}`, wasm, () => {
+    const ended = run([...preload, '--jitless', '--eval', said('smap')]);
+    assert.deepEqual([ended.out, ended.status], [`SMAP_NOT_BUILT ${message}\n`, 0]);
+  });
+}

@@ -36,7 +36,8 @@ test('nothing that was passed is read once the call has returned', async () => {
 });
 
 // In a process of its own, which would crash: memory of that size is given back to the system there.
-const crashes = { skip: process.env.ASAN_OPTIONS ? 'the sanitizers keep freed memory' : false };
+const KEPT = process.env.ASAN_OPTIONS ? 'the sanitizers keep freed memory' : false;
+const crashes = { skip: native.isWasm ? 'WebAssembly: no other thread opens maps' : KEPT };
 
 test('a URL with half surrogate pairs may be collected while its map is opened', crashes, () => {
   const code = `${HEAD}
@@ -70,7 +71,9 @@ test('what the constructor throws, the promise is rejected with', async () => {
   await assert.rejects(SourceMap.open(text, BASE, { limits: { items: 2 ** 31 } }), { code: 'SMAP_LIMITS' });
 });
 
-test('a map is handed to a worker, once, also when it was closed here', async () => {
+const shares = { skip: native.isWasm ? 'WebAssembly: a memory is of one thread' : false };
+
+test('a map is handed to a worker, once, also when it was closed here', shares, async () => {
   const map = new SourceMap(text, BASE);
   const number = map.share();
   map.close();
@@ -84,7 +87,7 @@ test('a map is handed to a worker, once, also when it was closed here', async ()
   for (const bad of [-1, 0.5, '1', null, undefined]) assert.throws(() => SourceMap.take(bad), TypeError);
 });
 
-test('many workers use one map at once', async () => {
+test('many workers use one map at once', shares, async () => {
   const map = new SourceMap(large, BASE);
   const wants = map.lookup(0, 299999).sourceColumn;
   assert.equal(wants, 299999);
