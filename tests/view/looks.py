@@ -93,8 +93,9 @@ def colours_mean_sources(browser, folder):
             made.add("g(2);", number, row, 5)
     made.write(folder, "hues.js", sources=[f"{'a' if n < 15 else 'b'}/{n}.js" for n in range(count)],
                sourcesContent=["let a = 1;\n" * 3] * count)
-    url = make_page(folder, "hues.js.map", "--base", "http://h/m", "hues.js.map")
-    browser.open(url)
+    browser.open(make_page(folder, "hues.js.map", "--base", "http://h/m", "hues.js.map"))
+    # not broken, so that all of the script is seen
+    browser.press("b")
     spans = browser.run("""
         return [...document.querySelectorAll('#generated .range')].flatMap(one =>
             Array(one.textContent.length).fill(one.className.replace(/range /, '')));""")
