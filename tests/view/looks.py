@@ -104,7 +104,9 @@ def colours_mean_sources(browser, folder):
         assert len(set(colour)) == 1, (number, colour)
         assert not number or colour[0] != colours[number - 1][0], number
     for number in 0, 7, 16:
-        follow(browser, f"#source={number + 1}")
+        browser.run("location.hash = arguments[0]", f"#source={number + 1}")
+        browser.wait("return document.getElementById('sources').textContent.endsWith(arguments[0])",
+                     f"/{number}.js")
         equal(browser.run(KINDS, "#source .range"), [colours[number][0]])
         equal(browser.run(KINDS, "#sources .swatch"), [colours[number][0]])
     browser.run("document.getElementById('bytes-tab').click()")
