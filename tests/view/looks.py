@@ -93,8 +93,9 @@ def colours_mean_sources(browser, folder):
             made.add("g(2);", number, row, 5)
     made.write(folder, "hues.js", sources=[f"{'a' if n < 15 else 'b'}/{n}.js" for n in range(count)],
                sourcesContent=["let a = 1;\n" * 3] * count)
-    url = make_page(folder, "hues.js.map", "--base", "http://h/m", "hues.js.map")
-    browser.open(url)
+    browser.open(make_page(folder, "hues.js.map", "--base", "http://h/m", "hues.js.map"))
+    # not broken, so that all of the script is seen
+    browser.press("b")
     spans = browser.run("""
         return [...document.querySelectorAll('#generated .range')].flatMap(one =>
             Array(one.textContent.length).fill(one.className.replace(/range /, '')));""")
@@ -103,7 +104,9 @@ def colours_mean_sources(browser, folder):
         assert len(set(colour)) == 1, (number, colour)
         assert not number or colour[0] != colours[number - 1][0], number
     for number in 0, 7, 16:
-        follow(browser, f"#source={number + 1}")
+        browser.run("location.hash = arguments[0]", f"#source={number + 1}")
+        browser.wait("return document.getElementById('sources').textContent.endsWith(arguments[0])",
+                     f"/{number}.js")
         equal(browser.run(KINDS, "#source .range"), [colours[number][0]])
         equal(browser.run(KINDS, "#sources .swatch"), [colours[number][0]])
     browser.run("document.getElementById('bytes-tab').click()")

@@ -189,8 +189,8 @@ def breaks_lines(browser, folder):
             [Number(row.dataset.line), Number(row.dataset.column),
              [...row.children].slice(1).map(one => one.textContent).join('')]);"""
     broken = browser.run(rows)
-    equal([text for _, _, text in broken[:8]],
-          ["function f(a){", "return a+1}", "for(;", ";){", "g()}", "if(x)y();", "z=[{},", "{}];"])
+    equal([text for _, _, text in broken[:7]],
+          ["function f(a){", "return a+1}", "for(;;){", "g()}", "if(x)y();", "z=[{},", "{}];"])
     line = "".join(pieces)
     for number, column, text in broken:
         equal(text, ([line, "short(){;}"][number])[column:column + len(text)])
