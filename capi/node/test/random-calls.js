@@ -320,9 +320,9 @@ const CALLS_OF = {
     const worker = new Worker(code, { eval: true, workerData: [HEAVY, 'http://h/' + given.string()] });
     given.later.push(new Promise(done => setTimeout(done, given.next(80))).then(() => worker.terminate()));
   },
-  // Another thread calls the maps of this one, which goes on with them.
+  // Another thread calls the maps of this one, which goes on with them. WebAssembly's memory is of one thread.
   shared(given) {
-    if (given.next(10)) return;
+    if (native.isWasm || given.next(10)) return;
     const numbers = given.maps.map(map => outcome(() => map.share())).filter(Number.isInteger);
     const code = `const { workerData } = require('node:worker_threads');
       require(${JSON.stringify(__filename)}).callShared(...workerData);`;
