@@ -1,6 +1,6 @@
 # shellcheck shell=sh disable=SC2154
-# How an LLVM module that the kit made for x86-64 becomes WebAssembly, read by `.` where `kit` is the kit's folder and
-# `work` one for files that aren't kept. Functions give a status that isn't 0, and say why, where they can't.
+# How an LLVM module that the kit made for x86-64 becomes WebAssembly, read by `.` where `top` is the repository, `kit`
+# the kit's folder and `work` one for files that are not kept. Functions that fail say why.
 #
 # Both have 64-bit pointers and little ends, and the kit's front end has laid out all that is in memory, by bytes: so
 # the module is taken as it is, but for the names of the processor and of its layout. What would be of x86-64 alone is
@@ -38,17 +38,18 @@ exec '$kit/toolchain/bin/clang' "\$@"
 KEEPING
 }
 
-# Puts dlmalloc.c into the folder $work: that of DLMALLOC, or of Debian's package emscripten, which is fetched, not
-# installed, where it isn't there.
+# Puts dlmalloc.c into the folder $work: that of DLMALLOC, or of Debian's package emscripten, which is fetched and not
+# installed where it isn't there. What was fetched, 109 MB, is kept as packaging/wasm/out/dlmalloc.c.
 wasm_dlmalloc() {
     inside=usr/share/emscripten/system/lib/dlmalloc.c
-    [ -n "$DLMALLOC" ] || [ ! -f "/$inside" ] || DLMALLOC=/$inside
-    if [ -z "$DLMALLOC" ]; then
-        (cd "$work" && apt-get -q -o Acquire::Retries=1 download emscripten >/dev/null 2>&1 &&
-            dpkg-deb --fsys-tarfile emscripten_*.deb | tar -x "./$inside" && rm -f emscripten_*.deb)
-        DLMALLOC=$work/$inside
-    fi
-    cp "$DLMALLOC" "$work/dlmalloc.c" 2>/dev/null || wasm_cannot 'no dlmalloc.c: DLMALLOC names it'
+    kept=$top/packaging/wasm/out/dlmalloc.c
+    for file in "$DLMALLOC" "/$inside" "$kept"; do
+        [ ! -f "$file" ] || { cp "$file" "$work/dlmalloc.c" && return; }
+    done
+    (cd "$work" && apt-get -q -o Acquire::Retries=1 download emscripten >/dev/null 2>&1 &&
+        dpkg-deb --fsys-tarfile emscripten_*.deb | tar -x "./$inside" && rm -f emscripten_*.deb &&
+        mkdir -p "${kept%/*}" && cp "$inside" "$kept" && mv "$inside" dlmalloc.c) ||
+        wasm_cannot 'no dlmalloc.c: DLMALLOC names it'
 }
 
 # wasm_object MODULE OBJECT
