@@ -118,6 +118,7 @@ function sameFiles(words) {
   const anew = () => {
     fs.rmSync(corpus, { recursive: true });
     fs.cpSync(kept, corpus, { recursive: true });
+    process.chdir(corpus);
   };
   const wanted = { ...nativeRun(words), tree: treeOf(corpus) };
   anew();

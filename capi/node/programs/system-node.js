@@ -57,7 +57,7 @@ function nodeSystem(program, { files = fs, platform = process.platform } = {}) {
     (all, [bit, name]) => (flags & bit ? all | files.constants[name] : all), flags & ACCESS);
   const slashed = path => (isWindows ? Buffer.from(path.toString().replaceAll('\\', '/')) : path);
   // Linux has a folder of the process, which is its user's.
-  const ofThisUser = () => Object.assign(files.statSync('.', { bigint: true }), { uid: BigInt(process.getuid?.() ?? 0) });
+  const ofThisUser = () => ({ ...files.statSync('.', { bigint: true }), uid: BigInt(process.getuid?.() ?? 0) });
 
   return {
     isTerminal: fd => tty.isatty(fd),
