@@ -1,6 +1,6 @@
 'use strict';
-// The page: it takes files and a log, has the worker run the programs over them, and shows what these wrote, as text
-// alone. It has no rules of the format.
+// The page: it takes files and a log, has the worker run the programs over them, and shows what these wrote,
+// as text alone. It has no rules of the format.
 const $ = id => document.getElementById(id);
 const MOST_NAMES = 500;
 const MOST_FINDINGS = 5_000;
@@ -11,7 +11,8 @@ const TABS = ['trace', 'lint', 'view'];
 
 // ---- the worker
 
-const worker = new Worker(URL.createObjectURL(new Blob([$('worker').textContent], { type: 'text/javascript' })));
+const code = new Blob([$('worker').textContent], { type: 'text/javascript' });
+const worker = new Worker(URL.createObjectURL(code));
 const waiting = new Map();
 let lastId = 0;
 
@@ -41,11 +42,14 @@ let leftOut = new Set(); // names of folders that weren't taken
 
 const count = number => number.toLocaleString('en');
 const several = (number, one) => `${count(number)} ${one}${number === 1 ? '' : 's'}`;
-const megabytes = size => (size < 1e5 ? `${Math.ceil(size / 1000)} KB` : `${count(+(size / 1e6).toPrecision(3))} MB`);
+const megabytes = size =>
+  (size < 1e5 ? `${Math.ceil(size / 1000)} KB` : `${count(+(size / 1e6).toPrecision(3))} MB`);
 const isMap = path => /\.map$/i.test(path);
 const isScript = path => /\.([cm]?js|css)$/i.test(path);
-const isLog = path => !path.includes('/') && (/\.(log|txt|out|err|jsonl?|ndjson)$/i.test(path) || !path.includes('.'));
-const isSkipped = path => path.split('/').slice(1, -1).find(name => name === 'node_modules' || name === '.git');
+const isLog = path =>
+  !path.includes('/') && (!path.includes('.') || /\.(log|txt|out|err|jsonl?|ndjson)$/i.test(path));
+const SKIPPED = ['node_modules', '.git'];
+const isSkipped = path => path.split('/').slice(1, -1).find(name => SKIPPED.includes(name));
 
 /** Takes files, [path, file], into the build, or as the log. */
 async function take(files) {
@@ -83,7 +87,8 @@ function showHeld() {
     ? `${several(held.size, 'file')}, ${several(maps.length, 'map')} among them, ${megabytes(size)}.${skipped}`
     : 'Drop a folder with scripts and maps anywhere on this page, or pick it.';
   $('held').replaceChildren(...names.slice(0, MOST_NAMES).map(name => element('li', name)));
-  if (names.length > MOST_NAMES) $('held').append(element('li', `and ${count(names.length - MOST_NAMES)} more`));
+  const left = names.length - MOST_NAMES;
+  if (left > 0) $('held').append(element('li', `and ${count(left)} more`));
   $('held').hidden = names.length === 0;
   $('clear').hidden = held.size === 0;
   $('example').hidden = held.size > 0;
@@ -178,9 +183,10 @@ $('clear').onclick = async () => {
   update();
 };
 $('example').onclick = () => {
-  const map = '{"version":3,"sources":["src/cart.ts"],"sourcesContent":["type Item = { price: number };\\n\\nconst total ' +
-    '= (item: Item) => item.price.toFixed(2);\\n\\ntotal({} as Item);\\n"],"mappings":"AAEA,MAAMA,EAASC,GAAeA,' +
-    'EAAKC,MAAMC,QAAQ,GAEjDH,EAAM,CAAA","names":["total","item","price","toFixed"]}';
+  const map = '{"version":3,"sources":["src/cart.ts"],"names":["total","item","price","toFixed"],' +
+    '"sourcesContent":["type Item = { price: number };\\n\\nconst total = (item: Item) => ' +
+    'item.price.toFixed(2);\\n\\ntotal({} as Item);\\n"],' +
+    '"mappings":"AAEA,MAAMA,EAASC,GAAeA,EAAKC,MAAMC,QAAQ,GAEjDH,EAAM,CAAA"}';
   const script = 'const t=i=>i.price.toFixed(2);t({});\n//# sourceMappingURL=cart.js.map\n';
   $('log').value ||= "TypeError: Cannot read properties of undefined (reading 'toFixed')\n" +
     '    at t (https://shop.example/cart.js:1:20)\n    at https://shop.example/cart.js:1:31\n';
@@ -197,7 +203,8 @@ for (const id of ['hide', 'context', 'map']) $(id).onchange = () => update();
 
 // ---- results
 
-const element = (name, text, className = '') => Object.assign(document.createElement(name), { textContent: text, className });
+const element = (name, textContent, className = '') =>
+  Object.assign(document.createElement(name), { textContent, className });
 
 function showBusy(text) {
   $('busy').hidden = text === null;
@@ -252,7 +259,9 @@ async function trace() {
       ? 'The build is here; paste or drop a log.' : 'The translated log appears here.');
     return;
   }
-  const options = [...($('hide').checked ? ['--hide-ignored'] : []), ...($('context').checked ? ['--context', '2'] : [])];
+  const options = [];
+  if ($('hide').checked) options.push('--hide-ignored');
+  if ($('context').checked) options.push('--context', '2');
   const words = ['smap-trace', ...options, folder()];
   const done = await ask('trace', { words, log: file, type: 'text/plain;charset=utf-8' });
   if (!done) return;
@@ -260,7 +269,8 @@ async function trace() {
   showHint('trace', '');
   showSaid('trace-said', errors, status !== 0);
   $('trace-save').href = urlOf(output, 'trace');
-  $('trace-state').textContent = `${several(shown.length, 'line')}${isAll ? '' : ' shown, more in the file'}, ${seconds(time)}`;
+  const more = isAll ? '' : ' shown, more in the file';
+  $('trace-state').textContent = `${several(shown.length, 'line')}${more}, ${seconds(time)}`;
   const parts = shown.flatMap(([line, isNew]) => [isNew ? element('span', line) : line, '\n']);
   $('traced').replaceChildren(...parts);
   $('traced').hidden = $('trace-row').hidden = shown.length === 0;

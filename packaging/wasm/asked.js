@@ -1,6 +1,6 @@
 'use strict';
-// asked.js MODULE: names what a module asks of its host that capi/node/programs/host.js doesn't have, and fails if
-// there is any.
+// asked.js MODULE: names what a module asks of its host that capi/node/programs/host.js doesn't have, and
+// fails if there is any.
 const fs = require('node:fs');
 const { callsOver } = require('../../capi/node/programs/host.js');
 const { hasWideMemory } = require('../../capi/node/programs/run.js');

@@ -1,5 +1,5 @@
-/* The heap of the WebAssembly modules: what the kit's library `libc` asks of C for it, over Doug Lea's malloc and
- * memory.grow. dlmalloc.c is the file of Debian's package emscripten, in the public domain (CC0). */
+/* The heap of the WebAssembly modules: what the kit's library `libc` asks of C for it, over Doug Lea's malloc
+ * and memory.grow. dlmalloc.c is the file of Debian's package emscripten, in the public domain (CC0). */
 typedef unsigned long size_t;
 typedef unsigned long uintptr_t;
 typedef long intptr_t;
@@ -56,8 +56,8 @@ void limit_memory(size_t bytes)
     limit = bytes;
 }
 
-/* Grows the memory to have so many bytes more behind its end, and by a sixteenth besides if that can be had, so that
- * a heap of many small blocks doesn't grow page by page. */
+/* Grows the memory to have so many bytes more behind its end, and by a sixteenth besides if that can be had, so
+ * that a heap of many small blocks doesn't grow page by page. */
 static int grow(size_t bytes)
 {
     size_t pages = (bytes + PAGE - 1) / PAGE, ahead = (size_t)end / PAGE / 16;

@@ -1,5 +1,5 @@
-/* C's open has a mode only where it may make the file, and so takes any number of arguments, which WebAssembly passes
- * in memory. The host is given all three. */
+/* C's open has a mode only where it may make the file, and so takes any number of arguments, which WebAssembly
+ * passes in memory. The host is given all three. */
 int host_open(const char *path, int flags, int mode);
 
 int open(const char *path, int flags, ...)

@@ -1,13 +1,13 @@
-# shellcheck shell=sh disable=SC2154
-# How an LLVM module that the kit made for x86-64 becomes WebAssembly, read by `.` where `top` is the repository, `kit`
-# the kit's folder and `work` one for files that are not kept. Functions that fail say why.
+# shellcheck shell=sh disable=SC2154 How an LLVM module that the kit made for x86-64 becomes WebAssembly, read
+# by `.` where `top` is the repository, `kit` the kit's folder and `work` one for files that are not kept.
+# Functions that fail say why.
 #
-# Both have 64-bit pointers and little ends, and the kit's front end has laid out all that is in memory, by bytes: so
-# the module is taken as it is, but for the names of the processor and of its layout. What would be of x86-64 alone is
-# looked for, and refused.
+# Both have 64-bit pointers and little ends, and the kit's front end has laid out all that is in memory, by
+# bytes: so the module is taken as it is, but for the names of the processor and of its layout. What would be
+# of x86-64 alone is looked for, and refused.
 
-# Bulk memory makes memcpy one instruction. Calls aren't sunk: one by a pointer makes a table, and V8 before 13.3 has
-# none of 64 bits.
+# Bulk memory makes memcpy one instruction. Calls aren't sunk: one by a pointer makes a table, and V8 before
+# 13.3 has none of 64 bits.
 wasm_flags="--target=wasm64-unknown-unknown ${OPTIMIZE:--O2} -msimd128 -mbulk-memory -mbulk-memory-opt
     -ffunction-sections -fdata-sections -mllvm -sink-common-insts=false -Wno-override-module"
 wasm_layout='e-m:e-p:64:64-p10:8:8-p20:8:8-i64:64-i128:128-n32:64-S128-ni:1:10:20'
@@ -24,8 +24,8 @@ wasm_clang() {
     "$kit/toolchain/bin/clang" "$@"
 }
 
-# Makes a folder a copy of the kit's toolchain whose clang keeps, in its folder modules, each module that it is given.
-# `rattle build --toolchain FOLDER` then leaves the program's there.
+# Makes a folder a copy of the kit's toolchain whose clang keeps, in its folder modules, each module that it
+# is given. `rattle build --toolchain FOLDER` then leaves the program's there.
 wasm_keeping_toolchain() {
     { mkdir -p "$1/modules" && cp -a "$kit/toolchain/." "$1"; } || return 1
     # These are links to clang, which goes by the name that it is called by.
@@ -38,8 +38,8 @@ exec '$kit/toolchain/bin/clang' "\$@"
 KEEPING
 }
 
-# Puts dlmalloc.c into the folder $work: that of DLMALLOC, or of Debian's package emscripten, which is fetched and not
-# installed where it isn't there. What was fetched, 109 MB, is kept as packaging/wasm/out/dlmalloc.c.
+# Puts dlmalloc.c into the folder $work: that of DLMALLOC, or of Debian's package emscripten, which is fetched
+# and not installed where it isn't there. What was fetched, 109 MB, is kept as packaging/wasm/out/dlmalloc.c.
 wasm_dlmalloc() {
     inside=usr/share/emscripten/system/lib/dlmalloc.c
     kept=$top/packaging/wasm/out/dlmalloc.c
@@ -82,13 +82,13 @@ wasm_heap() {
 
 # wasm_link MODULE OBJECT.. [FLAG..]
 #
-# The stack lies below the data: where it overflows there is a trap, and nothing is written over. Functions have frames
-# of 64 KiB, which is all the stack that the linker gives by itself.
+# The stack lies below the data: where it overflows there is a trap, and nothing is written over. Functions
+# have frames of 64 KiB, which is all the stack that the linker gives by itself.
 wasm_link() {
     [ -f "$WASM_BUILTINS" ] || wasm_cannot "no $WASM_BUILTINS (Debian: libclang-rt-14-dev-wasm64)" || return 1
     out=$1
     shift
     ln -sf "$kit/toolchain/bin/ld.lld" "$work/wasm-ld"
-    "$work/wasm-ld" -mwasm64 --no-entry --max-memory=17179869184 -z stack-size=8388608 --stack-first --gc-sections \
-        --fatal-warnings --strip-all -o "$out" "$@" "$WASM_BUILTINS"
+    "$work/wasm-ld" -mwasm64 --no-entry --max-memory=17179869184 -z stack-size=8388608 --stack-first \
+        --gc-sections --fatal-warnings --strip-all -o "$out" "$@" "$WASM_BUILTINS"
 }

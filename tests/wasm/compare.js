@@ -1,6 +1,7 @@
 'use strict';
-// compare.js PROGRAMS NATIVE CORPUS: runs the programs as WebAssembly, of the folder PROGRAMS, over the files of Node and
-// over files in memory, beside the program NATIVE: each case has to give the same bytes and the same status.
+// compare.js PROGRAMS NATIVE CORPUS: runs the programs as WebAssembly, of the folder PROGRAMS, over the files
+// of Node and over files in memory, beside the program NATIVE: each case has to give the same bytes and the
+// same status.
 const fs = require('node:fs');
 const path = require('node:path');
 const { spawnSync } = require('node:child_process');
@@ -20,7 +21,8 @@ const counts = { passed: 0, failed: 0 };
 
 const filesOf = folder => fs.readdirSync(folder, { recursive: true, withFileTypes: true })
   .filter(entry => entry.isFile()).map(entry => path.join(entry.parentPath ?? entry.path, entry.name)).sort();
-const treeOf = folder => filesOf(folder).map(file => [path.relative(folder, file), fs.readFileSync(file, 'latin1')]);
+const treeOf = folder =>
+  filesOf(folder).map(file => [path.relative(folder, file), fs.readFileSync(file, 'latin1')]);
 
 function nativeRun(words, input) {
   const options = { argv0: words[0], cwd: corpus, input, maxBuffer: 2 ** 28, env: {} };
@@ -66,7 +68,8 @@ function nodeRun(words, input) {
 function inMemory() {
   const root = newFolder();
   for (const file of filesOf(corpus)) put(root, file, new Uint8Array(fs.readFileSync(file)));
-  put(root, '/programs/smap-view.html', new Uint8Array(fs.readFileSync(path.join(programs, 'smap-view.html'))));
+  const page = fs.readFileSync(path.join(programs, 'smap-view.html'));
+  put(root, '/programs/smap-view.html', new Uint8Array(page));
   return root;
 }
 let root = inMemory();
@@ -101,7 +104,8 @@ function tell(name, words, wanted, got) {
   console.log(`FAILED: ${words.join(' ')}: ${name}`);
   for (const [key, value] of Object.entries(wanted)) {
     if (JSON.stringify(value) === JSON.stringify(got[key])) continue;
-    console.log(`  ${key}: ${JSON.stringify(got[key]).slice(0, 300)}, not ${JSON.stringify(value).slice(0, 300)}`);
+    const [is, was] = [got[key], value].map(one => JSON.stringify(one).slice(0, 300));
+    console.log(`  ${key}: ${is}, not ${was}`);
   }
 }
 
@@ -154,8 +158,8 @@ function cases() {
   for (const file of maps) {
     const input = fs.readFileSync(file);
     const commands = [['tidy'], ['check'], ['flatten'], ['tidy', '--relative']];
-    const isLarge = input.length > 100_000;
-    for (const [name, ...flags] of isLarge ? commands : commands.slice(0, 1)) same(['smap', name, ...flags, base], input);
+    const tried = input.length > 100_000 ? commands : commands.slice(0, 1);
+    for (const command of tried) same(['smap', ...command, base], input);
   }
   same(['smap', 'respell'], fs.readFileSync(path.join(corpus, 'mappings.txt')));
   same(['smap', 'translate'], fs.readFileSync(path.join(corpus, 'large.bundle')));
@@ -168,7 +172,7 @@ function cases() {
     same(['smap-trace', '--context', '1', 'build/engines', 'build/flat.js.map'], fs.readFileSync(file));
     same(['smap-trace', '--list', 'http://localhost/out/=build', log]);
   }
-  for (const name of ['build/engines/shop.js', 'build/small/worked.map', 'build/small']) same(['smap-view', name]);
+  for (const name of ['engines/shop.js', 'small/worked.map', 'small']) same(['smap-view', `build/${name}`]);
   same(['smap-view', '--sizes', 'json', 'build/small']);
   same(['smap-trace', '--help']);
   same(['smap', '--version']);

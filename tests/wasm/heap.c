@@ -1,5 +1,5 @@
-/* Calls the heap at random. Each block is filled with a byte of its own, which is looked at when the block is resized
- * or given back. */
+/* Calls the heap at random. Each block is filled with a byte of its own, which is looked at when the block is
+ * resized or given back. */
 typedef unsigned long u64;
 typedef unsigned char u8;
 typedef struct {

@@ -1,6 +1,6 @@
 'use strict';
-// Runs a program: what each command beside this file does. It is that of the package for this platform or, where there
-// is none, the same as WebAssembly.
+// Runs a program: what each command beside this file does. It is that of the package for this platform or,
+// where there is none, the same as WebAssembly.
 const { spawn } = require('node:child_process');
 const os = require('node:os');
 const { failure, fileOf } = require('../platform.js');

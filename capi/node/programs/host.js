@@ -1,7 +1,7 @@
 'use strict';
-// What the programs ask of C, as WebAssembly calls it, over a *system*: the files of Node (system-node.js) or files
-// in memory (system-memory.js). Paths and names are bytes without a zero. A system throws errors with a `code` such
-// as 'ENOENT'. Flags, kinds and numbers are those of Linux on x86-64, wherever this runs.
+// What the programs ask of C, as WebAssembly calls it, over a *system*: the files of Node (system-node.js) or
+// files in memory (system-memory.js). Paths and names are bytes without a zero. A system throws errors with a
+// `code` such as 'ENOENT'. Flags, kinds and numbers are those of Linux on x86-64, wherever this runs.
 const { fault, numberOf, wordsOf } = require('./numbers.js');
 
 const HERE = -100; // AT_FDCWD: names are those of the working directory
@@ -65,8 +65,8 @@ function putStat(view, found) {
 }
 
 /**
- * Moves entries of a folder, [name, kind], to the start of a buffer as getdents64 does, those that have room there,
- * and gives how many bytes they take.
+ * Moves entries of a folder, [name, kind], to the start of a buffer as getdents64 does, those that have room
+ * there, and gives how many bytes they take.
  */
 function moveEntries(memory, entries, at, room) {
   let used = 0;
@@ -184,8 +184,8 @@ function callsOver(system, words, memory) {
 }
 
 /**
- * Runs a program of a module, which is called by these words, to its end, and gives its status. `limit` is the most
- * bytes of memory that it may have.
+ * Runs a program of a module, which is called by these words, to its end, and gives its status. `limit` is the
+ * most bytes of memory that it may have.
  */
 function run(module, words, system, limit) {
   const memory = new Memory();

@@ -1,6 +1,6 @@
 'use strict';
-// Errors by the names that Node gives them: the number and the words of each on Linux, wherever this runs, since that
-// is what the programs were compiled for.
+// Errors by the names that Node gives them: the number and the words of each on Linux, wherever this runs,
+// since that is what the programs were compiled for.
 const NUMBERS = {
   EPERM: [1, 'Operation not permitted'],
   ENOENT: [2, 'No such file or directory'],

@@ -24,7 +24,7 @@ function canRun() {
   return typeof WebAssembly === 'object' && fs.existsSync(MODULE) && hasWideMemory();
 }
 
-/** The words of the command line as bytes. Node has them as text, without what isn't UTF-8; Linux as they are. */
+/** The words of the command line as bytes. Node has them as text, without what isn't UTF-8, but Linux has it. */
 function wordsGiven() {
   const words = process.argv.slice(2);
   if (process.platform === 'win32') return words.map(word => Buffer.from(word.replaceAll('\\', '/')));

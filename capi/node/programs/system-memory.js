@@ -1,6 +1,7 @@
 'use strict';
-// A system of files in memory, for host.js: that of the page, and of tests. Folders have `kids`, by name; files have
-// `data`, bytes or, in a worker of a browser, a File, which is read when the program reads it. Names are UTF-8.
+// A system of files in memory, for host.js: that of the page, and of tests. Folders have `kids`, by name;
+// files have `data`, bytes or, in a worker of a browser, a File, which is read when the program reads it.
+// Names are UTF-8.
 const { fault } = require('./numbers.js');
 
 const READ_AHEAD = 4 * 2 ** 20;
@@ -81,8 +82,8 @@ class Output {
 /** The system over a tree of folders. */
 class MemorySystem {
   /**
-   * `here` is the working directory, `input` what standard input has, `program` the path of the program, `room` how
-   * many bytes can be written to files, and `told` is called with numbers of bytes that were read from disk.
+   * `here` is the working directory, `input` what standard input has, `program` the path of the program, `room`
+   * how many bytes can be written to files, and `told` is called with numbers of bytes that were read from disk.
    */
   constructor(root, { here = '/', input = new Uint8Array(), program = '/programs/smap', room = Infinity,
     told = () => {} } = {}) {

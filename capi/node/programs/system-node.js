@@ -38,8 +38,8 @@ function whenReady(ask) {
 }
 
 /**
- * The system. `program` is the path of the file that is taken for the program, beside which smap-view looks for its
- * page; `files` and `platform` are in place of node:fs and this system in tests.
+ * The system. `program` is the path of the file that is taken for the program, beside which smap-view looks for
+ * its page; `files` and `platform` are in place of node:fs and this system in tests.
  */
 function nodeSystem(program, { files = fs, platform = process.platform } = {}) {
   const isLinux = platform === 'linux';
@@ -57,7 +57,8 @@ function nodeSystem(program, { files = fs, platform = process.platform } = {}) {
     (all, [bit, name]) => (flags & bit ? all | files.constants[name] : all), flags & ACCESS);
   const slashed = path => (isWindows ? Buffer.from(path.toString().replaceAll('\\', '/')) : path);
   // Linux has a folder of the process, which is its user's.
-  const ofThisUser = () => ({ ...files.statSync('.', { bigint: true }), uid: BigInt(process.getuid?.() ?? 0) });
+  const ofThisUser = () =>
+    ({ ...files.statSync('.', { bigint: true }), uid: BigInt(process.getuid?.() ?? 0) });
 
   return {
     isTerminal: fd => tty.isatty(fd),

@@ -1,6 +1,6 @@
 'use strict';
-// The commands of the package run a program of the package for the platform, for which scripts stand here. They
-// pass on words, streams, statuses and signals. Where there is none, they run the module.
+// The commands of the package run a program of the package for the platform, for which scripts stand here.
+// They pass on words, streams, statuses and signals. Where there is none, they run the module.
 const assert = require('node:assert');
 const fs = require('node:fs');
 const os = require('node:os');
