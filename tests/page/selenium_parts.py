@@ -1,5 +1,5 @@
-"""What the tests of the page want of browsers besides tests/view/browsers.py: files that are picked and dropped, what
-programs wrote, frames and pictures."""
+"""What the tests of the page want of browsers besides tests/view/browsers.py: files that are picked and dropped,
+what programs wrote, frames and pictures."""
 
 import base64
 
@@ -40,7 +40,8 @@ class Parts:
             self.driver.switch_to.default_content()
 
     def shot(self, file):
-        file.write_bytes(base64.b64decode(self.driver.get_screenshot_as_base64()))
+        with open(file, "wb") as out:
+            out.write(base64.b64decode(self.driver.get_screenshot_as_base64()))
 
 
 class Chromium(Parts, browsers.Chromium):
@@ -71,9 +72,10 @@ class Firefox(Parts, browsers.Firefox):
         above = build.folder.parent
         for file in build.files():
             path = str(file.relative_to(above))
-            self.run("""const path = arguments[0];
-                Object.defineProperty(File.prototype, 'webkitRelativePath', { configurable: true, get: () => path });""",
-                     path)
+            self.run("""
+                const [path] = arguments;
+                const asked = { configurable: true, get: () => path };
+                Object.defineProperty(File.prototype, 'webkitRelativePath', asked);""", path)
             count = self.run("return Number(document.body.dataset.files ?? 0)")
             self.driver.find_element(By.CSS_SELECTOR, "#files").send_keys(str(file))
             self.wait("return Number(document.body.dataset.files) > arguments[0]", count)
@@ -92,7 +94,8 @@ class Firefox(Parts, browsers.Firefox):
             const input = document.getElementById('dropped'), dataTransfer = new DataTransfer();
             for (const file of input.files) dataTransfer.items.add(file);
             input.remove();
-            document.body.dispatchEvent(new DragEvent('drop', { dataTransfer, bubbles: true, cancelable: true }));""")
+            const how = { dataTransfer, bubbles: true, cancelable: true };
+            document.body.dispatchEvent(new DragEvent('drop', how));""")
 
     def requests(self):
         return [self.run("return location.href")]

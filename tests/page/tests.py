@@ -1,5 +1,5 @@
-"""Tests the page that is the programs, in browsers: see tests/page/run. Expected values are what the program itself
-writes, or by hand."""
+"""Tests the page that is the programs, in browsers: see tests/page/run. Expected values are what the program
+itself writes, or by hand."""
 
 import argparse
 import json
@@ -74,9 +74,11 @@ class Build:
         program.parent.mkdir(exist_ok=True)
         if not program.is_symlink():
             program.symlink_to(SMAP)
-        done = subprocess.run([program, *words], cwd=above, stdin=subprocess.DEVNULL, capture_output=True, timeout=60)
+        done = subprocess.run([program, *words], cwd=above, stdin=subprocess.DEVNULL, capture_output=True,
+                              timeout=60)
         # In the page the folder above is /work.
-        texts = [text.decode().replace(f"file://{above}/", "file:///work/") for text in (done.stdout, done.stderr)]
+        texts = [text.decode().replace(f"file://{above}/", "file:///work/")
+                 for text in (done.stdout, done.stderr)]
         return done.returncode, *texts
 
 
@@ -94,12 +96,14 @@ def builds(temp):
 
 def shown(browser, tab, seconds=60):
     """Waits until the page shows a tab's results."""
-    browser.wait("return document.body.dataset.shown === arguments[0] && document.getElementById('busy').hidden", tab,
-                 seconds=seconds)
+    browser.wait("""return document.body.dataset.shown === arguments[0] &&
+        document.getElementById('busy').hidden""", tab, seconds=seconds)
 
 
 def text_of(browser, name):
-    return browser.run("const it = document.getElementById(arguments[0]); return it.hidden ? '' : it.textContent", name)
+    return browser.run("""
+        const it = document.getElementById(arguments[0]);
+        return it.hidden ? '' : it.textContent""", name)
 
 
 def is_bad(browser, name):
@@ -116,7 +120,8 @@ def paste(browser, text):
     browser.run("""
         const [data] = arguments, dataType = 'text/plain', clipboardData = new DataTransfer();
         clipboardData.setData(dataType, data);
-        document.body.dispatchEvent(new ClipboardEvent('paste', { clipboardData, data, dataType, bubbles: true }));""", text)
+        const how = { clipboardData, data, dataType, bubbles: true };
+        document.body.dispatchEvent(new ClipboardEvent('paste', how));""", text)
 
 
 def opened(browser, page):
@@ -150,7 +155,8 @@ def traces(browser, page, build, log, folder):
     equal(text_of(browser, "trace-said"), errors.rstrip("\n"))
     equal(is_bad(browser, "trace-said"), status != 0)
     changed = [line for line, old in zip(output.splitlines(), log.splitlines()) if line != old]
-    equal(browser.run("return [...document.querySelectorAll('#traced span')].map(one => one.textContent)"), changed)
+    marked = "return [...document.querySelectorAll('#traced span')].map(one => one.textContent)"
+    equal(browser.run(marked), changed)
 
 
 def hides(browser, page, build, folder):
@@ -159,7 +165,8 @@ def hides(browser, page, build, folder):
     browser.run("document.getElementById('context').click()")
     shown(browser, "trace")
     (folder / "pasted.log").write_text(log)
-    equal(text_of(browser, "traced"), build.run("smap-trace", "--context", "2", build.name, str(folder / "pasted.log"))[1])
+    words = "--context", "2", build.name, str(folder / "pasted.log")
+    equal(text_of(browser, "traced"), build.run("smap-trace", *words)[1])
 
 
 def long_log(browser, page, build, folder):
@@ -181,7 +188,8 @@ def long_log(browser, page, build, folder):
 def lints(browser, page, build):
     start(browser, page, build)
     choose(browser, "lint")
-    wanted = [json.loads(line) for line in build.run("smap-maps", "lint", "--format", "json", build.name)[1].splitlines()]
+    written = build.run("smap-maps", "lint", "--format", "json", build.name)[1]
+    wanted = [json.loads(line) for line in written.splitlines()]
     at = {True: "", False: ":{line}:{column}"}
     wanted = [[one["level"], one["file"] + at[one["line"] is None].format(**one), one["message"], one["rule"]]
               for one in wanted]
@@ -194,7 +202,8 @@ def lints(browser, page, build):
 def views(browser, page, build):
     start(browser, page, build)
     maps = [str(file.relative_to(build.folder.parent)) for file in build.files() if file.suffix == ".map"]
-    equal(browser.run("return [...document.getElementById('map').options].map(one => one.value)"), [*maps, build.name])
+    listed = "return [...document.getElementById('map').options].map(one => one.value)"
+    equal(browser.run(listed), [*maps, build.name])
     choose(browser, "view")
     for name in [*maps, build.name]:
         browser.run("""
@@ -203,7 +212,8 @@ def views(browser, page, build):
             map.dispatchEvent(new Event('change'))""", name)
         shown(browser, "view")
         status, output, errors = build.run("smap-view", name)
-        equal((text_of(browser, "view-said"), is_bad(browser, "view-said")), (errors.rstrip("\n"), status != 0))
+        equal(text_of(browser, "view-said"), errors.rstrip("\n"))
+        equal(is_bad(browser, "view-said"), status != 0)
         equal(browser.run("return document.getElementById('viewed').hidden"), not output)
         if output:
             equal(browser.written(), output)
@@ -257,7 +267,7 @@ FAKE_DROP = """
 
 
 def dropped(browser, page, build, log):
-    """A drop of a folder and a log, entry by entry, as browsers pass it; folders of packages in it are left out."""
+    """A drop of a folder and a log, entry by entry, as browsers pass it; folders of packages are left out."""
     opened(browser, page)
     files = [[str(file.relative_to(build.folder.parent)), file.read_text()] for file in build.files()]
     more = [["dist/node_modules/x/index.js", "x"], ["crash.log", log]]
@@ -301,22 +311,26 @@ def example(browser, page):
 def large(browser, page, folder, tell):
     """A build of 100 MB: the page answers while it is read."""
     build = Build(folder / "large/build")
-    made = subprocess.run([sys.executable, "-B", TOP / "bench/make_map.py", "--segments", "400000"], check=True,
-                          capture_output=True).stdout.decode()
+    command = [sys.executable, "-B", TOP / "bench/make_map.py", "--segments", "400000"]
+    made = subprocess.run(command, check=True, capture_output=True).stdout.decode()
     for number in range(1 + 100_000_000 // len(made)):
         build.put(f"large{number}.js.map", made)
     start(browser, page, build)
     browser.run("""
         self.longest = 0;
         let last = performance.now();
-        setInterval(() => { const now = performance.now(); longest = Math.max(longest, now - last); last = now; }, 10);""")
+        setInterval(() => {
+            const now = performance.now();
+            longest = Math.max(longest, now - last);
+            last = now;
+        }, 10);""")
     began = time.monotonic()
     browser.run("document.getElementById('tab-lint').click()")
     browser.wait("return / MB read$/.test(document.getElementById('busy-said').textContent)", seconds=60)
     shown(browser, "lint", seconds=300)
     taken, longest = time.monotonic() - began, browser.run("return longest")
-    tell(f"{browser.name}: {sum(file.stat().st_size for file in build.files()) / 1e6:.0f} MB linted in {taken:.1f} s, "
-         f"the page busy for {longest:.0f} ms at most")
+    size = sum(file.stat().st_size for file in build.files()) / 1e6
+    tell(f"{browser.name}: {size:.0f} MB linted in {taken:.1f} s, the page busy for {longest:.0f} ms at most")
     assert longest < 1000, longest
     shutil.rmtree(build.folder)
 
@@ -337,11 +351,14 @@ def asks_nobody(browser, page):
     """What the policy keeps: no script of the page can send anything."""
     opened(browser, page)
     tried = """
-        const done = arguments[arguments.length - 1];
         return Promise.all([
             fetch('http://127.0.0.1:9/').then(() => 'sent', () => 'kept'),
-            new Promise(ok => { const one = new Image(); one.onload = () => ok('sent'); one.onerror = () => ok('kept');
-                                one.src = 'http://127.0.0.1:9/'; }),
+            new Promise(ok => {
+                const one = new Image();
+                one.onload = () => ok('sent');
+                one.onerror = () => ok('kept');
+                one.src = 'http://127.0.0.1:9/';
+            }),
             Promise.resolve(document.querySelector('meta[http-equiv]').content.split(';')[0]),
         ]);"""
     equal(browser.run(tried), ["kept", "kept", "default-src 'none'"])
@@ -358,22 +375,28 @@ def console_is_quiet(browser, page, build, log):
 
 
 NAMELESS = """
-    const names = one => one.getAttribute('aria-label') || one.title || [...(one.labels ?? [])].map(label =>
-        label.textContent.trim()).join('') || (one.matches('button, a, [role=tab]') ? one.textContent.trim() : '') ||
-        (one.getAttribute('aria-labelledby') ?? '').split(' ').map(id => document.getElementById(id)?.textContent).join('');
-    return [...document.querySelectorAll('button, a, input, select, textarea, iframe, progress, [tabindex], [role]')]
-        .filter(one => !names(one) && one.getAttribute('role') !== 'status').map(one => one.outerHTML.slice(0, 100));"""
+    const texts = list => list.map(one => one?.textContent.trim() ?? '').join('');
+    const ids = one => (one.getAttribute('aria-labelledby') ?? '').split(' ');
+    const names = one => one.getAttribute('aria-label') || one.title || texts([...(one.labels ?? [])]) ||
+        (one.matches('button, a') && texts([one])) || texts(ids(one).map(id => document.getElementById(id)));
+    const all = 'button, a, input, select, textarea, iframe, progress, [tabindex], [role]:not([role=status])';
+    return [...document.querySelectorAll(all)].filter(one => !names(one)).map(one => one.outerHTML.slice(0, 100));"""
 
 CONTRASTS = """
     const numbers = text => text.match(/[\\d.]+/g).map(Number);
-    const light = ([r, g, b]) => [r, g, b].map(v => v / 255).map(v => v <= 0.04045 ? v / 12.92 : ((v + 0.055) / 1.055) ** 2.4)
-        .reduce((sum, v, i) => sum + v * [0.2126, 0.7152, 0.0722][i], 0);
-    const under = one => { for (; one; one = one.parentElement) {
-        const color = numbers(getComputedStyle(one).backgroundColor); if (color.length < 4 || color[3] > 0) return color; }
-        return [255, 255, 255]; };
+    const linear = v => v <= 0.04045 ? v / 12.92 : ((v + 0.055) / 1.055) ** 2.4;
+    const light = ([r, g, b]) => 0.2126 * linear(r / 255) + 0.7152 * linear(g / 255) + 0.0722 * linear(b / 255);
+    const under = one => {
+        for (; one; one = one.parentElement) {
+            const color = numbers(getComputedStyle(one).backgroundColor);
+            if (color.length < 4 || color[3] > 0) return color;
+        }
+        return [255, 255, 255];
+    };
+    const hasText = one => [...one.childNodes].some(node => node.nodeType === 3 && node.data.trim());
     const low = [];
     for (const one of document.querySelectorAll('body *')) {
-        if (![...one.childNodes].some(node => node.nodeType === 3 && node.data.trim()) || !one.checkVisibility()) continue;
+        if (!hasText(one) || !one.checkVisibility()) continue;
         const [a, b] = [light(numbers(getComputedStyle(one).color)), light(under(one))].sort((x, y) => y - x);
         if ((a + 0.05) / (b + 0.05) < 4.5) low.push(one.outerHTML.slice(0, 80));
     }
@@ -402,14 +425,14 @@ def keyboard(browser, page, build, log):
     browser.press(browsers.TAB)
     browser.press(browsers.TAB)
     equal(browser.run("return document.activeElement.id"), "map")
-    browser.run("document.getElementById('tab-trace').click(); document.body.focus(); document.activeElement.blur()")
+    browser.run("document.getElementById('tab-trace').click(); document.activeElement.blur()")
     shown(browser, "trace")
     reached = set()
     for _ in range(25):
         browser.press(browsers.TAB)
         reached.add(browser.run("return document.activeElement.id"))
-    wanted = {"folder", "files", "clear", "log", "log-pick", "hide", "context", "tab-trace", "trace-save", "trace-copy"}
-    assert wanted <= reached, wanted - reached
+    wanted = "folder files clear log log-pick hide context tab-trace trace-save trace-copy"
+    assert set(wanted.split()) <= reached, set(wanted.split()) - reached
 
 
 def fits(browser, page, broken, width):
@@ -430,7 +453,8 @@ def too_old(browser, page, folder):
     browser.open(f"file://{folder}/old.html")
     browser.wait("return !document.getElementById('trace-said').hidden", seconds=60)
     said = text_of(browser, "trace-said")
-    assert said.startswith("This browser can't run the programs: it has no WebAssembly with 64-bit memory. Chrome"), said
+    wanted = "This browser can't run the programs: it has no WebAssembly with 64-bit memory. Chrome"
+    assert said.startswith(wanted), said
     equal(text_of(browser, "trace-hint"), "")
 
 
@@ -440,18 +464,19 @@ def screens(browser, page, good, broken, folder):
         for scheme in "light", "dark":
             browser.size(width, height)
             browser.scheme(scheme)
-            shot = lambda name: browser.shot(folder / f"{browser.name}-{width}-{scheme}-{name}.png")  # noqa: E731, B023
+            name = f"{folder}/{browser.name}-{width}-{scheme}"
             opened(browser, page)
-            shot("empty")
+            browser.shot(f"{name}-empty.png")
             start(browser, page, good, (MAPS / "crash.log").read_text())
-            shot("trace")
+            browser.shot(f"{name}-trace.png")
+            browser.run("document.getElementById('map').value = 'dist/out.js.map'")
             choose(browser, "view")
             time.sleep(0.5)
-            shot("view")
+            browser.shot(f"{name}-view.png")
             start(browser, page, broken, "    at f (http://h/m/lazy/one.js:1:5)\n")
-            shot("refused")
+            browser.shot(f"{name}-refused.png")
             choose(browser, "lint")
-            shot("lint")
+            browser.shot(f"{name}-lint.png")
     browser.size(1280, 800)
     browser.scheme("light")
 
@@ -461,7 +486,10 @@ def try_browser(browser, page, temp, given):
     log = (MAPS / "crash.log").read_text()
     folder = temp / browser.name
     browser.size(1280, 800)
-    one = lambda name, function, *values: test(f"{browser.name}: {name}", function, browser, page, *values)  # noqa: E731
+
+    def one(name, function, *values):
+        test(f"{browser.name}: {name}", function, browser, page, *values)
+
     one("a folder and a pasted log", traces, good, log, folder)
     one("source lines", hides, good, folder)
     one("a long log", long_log, good, folder)
