@@ -107,7 +107,7 @@ pub reached_beside : (most : ℕ) (held : Held) (root : Option Folder) (has_base
     → IsMadeOf (IsLoadedTo most ends) held (with_base has_base place.base found) it
     → IsFollowedUp most held root has_base place it
 reached_beside most None root has_base place found text ends it is names own w made = tt
-reached_beside most (Some held) root has_base place found text ends it is names own w (inl unread) = inl unread
+reached_beside most (Some held) root has_base place found text ends it is names own w (inl u) = inl u
 reached_beside most (Some held) root has_base place found text ends it is names own w (inr made) =
     inr (inr (record {
       base = cond has_base place.base found.base;

@@ -64,8 +64,8 @@ abbrev pub ended_loaded : Option (List ℕ) → Loaded → Loaded
 ended_loaded ends (loaded.Map m) = loaded.Map (ended_by ends m)
 ended_loaded ends (loaded.Broken e) = loaded.Broken e
 
--- What became of these bytes: the map that they are, ended where the lines of its script are if that is known,
--- or what is wrong with them.
+-- What became of these bytes: the map that they are, ended where the lines of its script are if that is
+-- known, or what is wrong with them.
 abbrev pub IsReadTo : ℕ → List ℕ → List ℕ → Option (List ℕ) → Loaded → Type 0
 IsReadTo most url bytes ends (loaded.Map m) =
     (whole : ReadMap) × (IsReading most url bytes (Ok (Some whole)) × (m ≡ ended_by ends whole))

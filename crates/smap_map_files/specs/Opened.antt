@@ -54,8 +54,8 @@ pub record IsBeside (held : List ℕ → Option (List ℕ)) (root : Option Folde
   pub base_is : base ≡ beside_base has_base place names.url
   pub ends_are : ends ≡ ends_of root place.file text
 
--- The bytes that the file of a place, found in this folder if in one, is, holds or names for a map, the URL for
--- them, and where the lines of its script end, if that is a script of a folder.
+-- The bytes that the file of a place, found in this folder if in one, is, holds or names for a map, the URL
+-- for them, and where the lines of its script end, if that is a script of a folder.
 abbrev pub GivesBy : (List ℕ → Option (List ℕ)) → Option Folder → Bool → MapPlace → List ℕ → List ℕ
     → Option (List ℕ) → Type 0
 GivesBy held root has_base place base bytes ends = (IsItself held place base bytes × (ends ≡ None))
@@ -91,11 +91,11 @@ Gives held root has_base place base bytes ends = GivesBy held root has_base plac
     ⊎ ((may_lie_beside root place ≡ true) × GivesBy held root has_base (script_beside place) base bytes ends))
 
 -- What became of bytes that are so given, where the URLs of a map's sources may take so many bytes.
-pub record IsGivenBy (most : ℕ) (Are : List ℕ → List ℕ → Option (List ℕ) → Type 0) (it : Loaded) : Type 0 where
+pub record IsGivenBy (most : ℕ) (Is : List ℕ → List ℕ → Option (List ℕ) → Type 0) (it : Loaded) : Type 0 where
   pub base : List ℕ
   pub bytes : List ℕ
   pub ends : Option (List ℕ)
-  pub gives : Are base bytes ends
+  pub gives : Is base bytes ends
   pub read : IsReadTo most base bytes ends it
 
 -- ---- a map was opened

@@ -125,7 +125,8 @@ fn inline_loaded<E: Eprint + AllocGlobal, D: Disk>(
     ends: &Option<Vec<usize>>,
 ) -> Result<(Place, Loaded), Stop>
     ensures { IfOk result (λ f. IsReadTo subject.now.url_bytes
-        (within_base subject.now.has_base (place_in subject.now.place)) bytes.items (widths_in ends.now) f.1) }
+        (within_base subject.now.has_base (place_in subject.now.place)) bytes.items
+        (widths_in ends.now) f.1) }
 {
     let alloc = host.alloc();
     say_used(host, how, subject, "inline map")?;
@@ -193,8 +194,8 @@ fn wrong_loaded<E: Eprint + AllocGlobal, D: Disk>(
     Ok(Some((copied(host.alloc(), &subject.place)?, broken)))
 }
 
-/// The map that a script names, whose lines are so wide, if that is known; none if the script is left out. What
-/// is chosen is told.
+/// The map that a script names, whose lines are so wide, if that is known; none if the script is left out.
+/// What is chosen is told.
 fn map_of_script<E: Eprint + AllocGlobal, D: Disk>(
     host: &Host<'_, E, D>,
     store: &mut FileStore<'_, D>,
@@ -417,8 +418,8 @@ fn said_beside<E: Eprint + AllocGlobal, D: Disk>(
 }
 
 /// The map of a place, opened, or says what is wrong with it. Of a script it is the map that its last comment
-/// names; so it is of a map that lies next to its script in a folder, if what the script names can be had. The
-/// map of a script of a folder ends where the lines of that do: nothing past these has an original.
+/// names; so it is of a map that lies next to its script in a folder, if what the script names can be had.
+/// The map of a script of a folder ends where the lines of that do: nothing past these has an original.
 ///
 /// # Errors
 ///

@@ -18,7 +18,7 @@ all_ended widths all ts whole i past h = sym (append-nil all) ∙ (rw (drop_all 
 
 -- ---- the ends of lines
 
-pub has_no_original : (widths : List ℕ) (t m : Token) (next : Option Token) → end_behind widths t next ≡ Some m
+pub has_no_original : (widths : List ℕ) (t m : Token) (o : Option Token) → end_behind widths t o ≡ Some m
     → m.original ≡ None
 has_no_original widths t m next e = grind (arith, nat_tests)
 
@@ -44,10 +44,13 @@ column_fits widths t m next e = grind (arith, nat_tests)
 
 -- ---- tokens in order stay in order
 
+-- the second one isn't before the first
+abbrev IsAfter : Token → Token → Type 0
+IsAfter a b = is_before (position_of b) (position_of a) ≡ false
+
 between : (a : Token) (o : Option Token) (c : Token) (rest : List Token)
     → is_before (position_of c) (position_of a) ≡ false
-    → ((m : Token) → o ≡ Some m
-    → (is_before (position_of m) (position_of a) ≡ false) × (is_before (position_of c) (position_of m) ≡ false))
+    → ((m : Token) → o ≡ Some m → IsAfter a m × IsAfter m c)
     → NeverFalls (map position_of (c ∷ rest)) → NeverFalls (map position_of (a ∷ cons_option o (c ∷ rest)))
 between a None c rest ca ends h = (ca, h)
 between a (Some m) c rest ca ends h = let e = ends m refl in (e.0, (e.1, h))
@@ -89,8 +92,8 @@ all_of_ended P widths (t ∷ ts) keeps ends all = (
 
 pub keeps_by : (P : Token → Type 0) (widths : List ℕ) (t : Token)
     → P t → P (record t { original = None }) → P (kept widths t)
-keeps_by P widths t with_it without =
-    cond_both (is_within widths t.line t.column) t (record t { original = None }) P (λ e. with_it) (λ e. without)
+keeps_by P widths t p q =
+    cond_both (is_within widths t.line t.column) t (record t { original = None }) P (λ e. p) (λ e. q)
 
 placed_end : (widths : List ℕ) (t m : Token) (next : Option Token) → end_behind widths t next ≡ Some m
     → IsPlaced t → IsPlaced m

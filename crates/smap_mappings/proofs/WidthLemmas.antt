@@ -1,6 +1,7 @@
 -- Widths of lines, byte by byte.
 use Rattle.std.proofs.Common.{◌≡◌, ℕ, ◌+◌, ◌<◌, Bool, true, false, List, [], ◌∷◌, ◌++◌, drop, length, get_or}
-use Rattle.std.proofs.Common.{refl, append_assoc, zero-add, add-zero, add_assoc, add-one, suc, take, ◌-◌, not, arith}
+use Rattle.std.proofs.Common.{refl, append_assoc, zero-add, add-zero, add_assoc, add-one, suc, take}
+use Rattle.std.proofs.Common.{◌-◌, not, arith}
 use Rattle.std.proofs.Math.Seq.{drop-cons}
 use Rattle.std.proofs.lemmas.List.{take_rest}
 use Rattle.smap_mappings.specs.Widths.{line_widths, wider, ends_line, units_before, with_last}

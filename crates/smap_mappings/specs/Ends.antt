@@ -28,8 +28,8 @@ abbrev pub end_behind : List ℕ → Token → Option Token → Option Token
 end_behind widths t next =
     cond (goes_on widths t.line next) None (end_at t.line t.column (slice_get widths t.line))
 
--- The tokens of a script whose lines are so wide: behind the last one before the end of a line stands that end,
--- and past the ends nothing has an original.
+-- The tokens of a script whose lines are so wide: behind the last one before the end of a line stands that
+-- end, and past the ends nothing has an original.
 abbrev pub ended : List ℕ → List Token → List Token
 ended widths [] = []
 ended widths (t ∷ ts) =

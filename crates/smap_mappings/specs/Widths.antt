@@ -53,8 +53,8 @@ abbrev pub has_separator : List ℕ → Bool
 has_separator [] = false
 has_separator (b ∷ rest) = starts_separator (b ∷ rest) || has_separator rest
 
--- Positions can be counted alike by all: it is UTF-8, and has neither U+2028 nor U+2029, since few tools agree
--- on whether a line ends there.
+-- Positions can be counted alike by all: it is UTF-8, and has neither U+2028 nor U+2029, since few tools
+-- agree on whether a line ends there.
 abbrev pub is_counted : List ℕ → Bool
 is_counted text = is_utf8 text && not (has_separator text)
 

@@ -68,8 +68,9 @@ fn add_ended(
     Ok(())
 }
 
-/// These tokens as those of a script whose lines are so wide: where the last one before the end of a line has an
-/// original, that is had up to this end, and what is past it has none. The tokens are those of a map, sorted.
+/// These tokens as those of a script whose lines are so wide: where the last one before the end of a line has
+/// an original, that is had up to this end, and what is past it has none. The tokens are those of a map,
+/// sorted.
 ///
 /// # Errors
 ///

@@ -122,8 +122,8 @@ fn is_counted(text: &[u8]) -> bool
     }
 }
 
-/// The widths of the lines of a script, as [`line_widths`] has them; none where its positions can't be counted:
-/// it isn't UTF-8, or has U+2028 or U+2029.
+/// The widths of the lines of a script, as [`line_widths`] has them; none where its positions can't be
+/// counted: it isn't UTF-8, or has U+2028 or U+2029.
 ///
 /// # Errors
 ///

@@ -60,8 +60,8 @@ impl SourceMap {
         SourceMap { labels, listing }
     }
 
-    /// The map, as that of a script whose lines are so wide ([`line_widths`](smap_mappings::line_widths)): what is
-    /// past the end of a line, or behind the last line, has no original. All else is as before.
+    /// The map, as that of a script whose lines are so wide ([`line_widths`](smap_mappings::line_widths)):
+    /// what is past the end of a line, or behind the last line, has no original. All else is as before.
     ///
     /// # Errors
     ///

@@ -63,11 +63,11 @@ has_original found = is_some (option_and_then (λ n. n.origin) found)
 
 -- nothing was found that has an original, but something, if the first token is before the end of the line
 abbrev IsBare : List ℕ → ℕ → Option Token → Option Mapping → Type 0
-IsBare widths line next rest = (has_original rest ≡ false) × (goes_on widths line next ≡ true → is_some rest ≡ true)
+IsBare widths line o rest = (has_original rest ≡ false) × (goes_on widths line o ≡ true → is_some rest ≡ true)
 
 past_end : (l : Listing) (widths : List ℕ) (line column : ℕ) (t : Token) (next : Option Token)
-    (rest : Option Mapping) → column ≤ max_position → has widths line column ≡ false → has_original rest ≡ false
-    → has_original (found_end l line column rest (end_behind widths t next)) ≡ false
+    (r : Option Mapping) → column ≤ max_position → has widths line column ≡ false → has_original r ≡ false
+    → has_original (found_end l line column r (end_behind widths t next)) ≡ false
 past_end l widths line column t next rest le h bare = grind (arith, nat_tests)
 
 some_end : (l : Listing) (widths : List ℕ) (line column : ℕ) (t : Token) (next : Option Token)

@@ -14,6 +14,6 @@ WithinAllStays = (m : ReadMap) (widths : List ℕ) (line column : ℕ) → is_wi
 
 -- A position past the end of its line, or of the script, has no original.
 abbrev pub NothingIsPast : Type 0
-NothingIsPast = (m : ReadMap) (widths : List ℕ) (line column : ℕ) → column ≤ max_position
-    → is_within widths line column ≡ false
-    → option_and_then (λ n. n.origin) (mapping_at (record_of (ended_map widths m)).mappings line column) ≡ None
+NothingIsPast = (m : ReadMap) (ends : List ℕ) (line column : ℕ) → column ≤ max_position
+    → is_within ends line column ≡ false
+    → option_and_then (λ n. n.origin) (mapping_at (record_of (ended_map ends m)).mappings line column) ≡ None

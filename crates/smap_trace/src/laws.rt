@@ -11,8 +11,8 @@ pub fn lookups_are_computed()
     ensures { LookupIsComputed }
 {}
 
-/// In a map that ends where the lines of its script do ([`ended`](smap_record::SourceMap::ended)), a position of
-/// the script falls to the same mapping as in the map itself.
+/// In a map that ends where the lines of its script do ([`ended`](smap_record::SourceMap::ended)), a position
+/// of the script falls to the same mapping as in the map itself.
 pub fn within_all_stays()
     ensures { WithinAllStays }
 {}

@@ -8,14 +8,16 @@ use Rattle.smap_map_files.proofs.opening.map_of_script.Goals as goal
 pub returns-in-Nothing-clause-reached : goal.returns-in-Nothing-clause-reached
 returns-in-Nothing-clause-reached g c =
     let followed = rw c.deref.ensures.value at (rw c.in-Nothing.is at c.in_ok-bytes.ensures) in
-    if_both c.itself_loaded.result (λ some. left_out _ _ _ c.args.text.items c.requires.held (inl followed) some)
-    (λ f read. reached_itself _ _ _ _ _ c.args.text.items f.1 c.requires.held read) c.itself_loaded.ensures
+    let text = c.args.text.items in
+    if_both c.itself_loaded.result (λ some. left_out _ _ _ text c.requires.held (inl followed) some)
+    (λ f read. reached_itself _ _ _ _ _ text f.1 c.requires.held read) c.itself_loaded.ensures
 
 pub returns-in-Wrong-clause-reached : goal.returns-in-Wrong-clause-reached
 returns-in-Wrong-clause-reached g c =
     let followed = rw c.deref.ensures.value at (rw c.in-Wrong.is at c.in_ok-bytes.ensures) in
-    if_both c.wrong_loaded.result (λ some. left_out _ _ _ c.args.text.items c.requires.held (inr followed) some)
-    (λ f link. reached_link _ _ _ _ _ c.args.text.items f.1 c.requires.held followed link) c.wrong_loaded.ensures
+    let text = c.args.text.items in
+    if_both c.wrong_loaded.result (λ some. left_out _ _ _ text c.requires.held (inr followed) some)
+    (λ f link. reached_link _ _ _ _ _ text f.1 c.requires.held followed link) c.wrong_loaded.ensures
 
 pub returns-in_ok-inline_loaded-in-Inline-clause-reached :
     goal.returns-in_ok-inline_loaded-in-Inline-clause-reached

@@ -4,5 +4,6 @@ use Rattle.smap_mappings.proofs.ends.ended.Goals as goal
 
 pub returns-clause-encodable : goal.returns-clause-encodable
 returns-clause-encodable c is =
-    rw (all_ended c.args.widths.now c.loop-i.all.items c.args.tokens.now _ c.loop-i.i (search rules) c.loop-i.invariant)
-    (ended_encodable c.args.widths.now c.args.tokens.now is)
+    let widths = c.args.widths.now in
+    rw (all_ended widths c.loop-i.all.items c.args.tokens.now _ c.loop-i.i (search rules) c.loop-i.invariant)
+    (ended_encodable widths c.args.tokens.now is)
