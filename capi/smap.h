@@ -413,6 +413,16 @@ SMAP_INLINE uint32_t smap_script_url(const char *folder, size_t folder_len, cons
 SMAP_INLINE uint32_t smap_script_name(const char *folder, size_t folder_len, const char *url,
                                       size_t url_len, smap_bytes *out);
 
+/* What a file is by the end of its name. */
+enum {
+    SMAP_FILE_OTHER = 0,
+    SMAP_FILE_SCRIPT = 1,      /* .js, .mjs, .cjs */
+    SMAP_FILE_STYLE_SHEET = 2, /* .css */
+    SMAP_FILE_MAP = 3          /* .map */
+};
+
+SMAP_INLINE uint32_t smap_file_kind(const char *name, size_t len);
+
 /* What a script names for its map. */
 enum {
     SMAP_NAMED_UNSAID = 0,  /* nothing, in a text of white space and comments: what is before it would say */
@@ -432,6 +442,14 @@ enum {
 SMAP_INLINE uint32_t smap_named_map(const char *folder, size_t folder_len, const char *name,
                                     size_t name_len, const void *text, size_t len, smap_bytes *out,
                                     uint32_t *kind);
+
+/* The next of the maps that a script may have, after so many that can't be had (`tried`): first the one that
+ * it names, then the file NAME.map next to it. The first that can be had is its map. The folder, the name, the
+ * text and *kind are those of smap_named_map. OK: `out` holds the map, if *kind is SMAP_NAMED_INLINE and
+ * `tried` is 0, or else its file's name below the folder; NONE: there are no more; MEMORY. */
+SMAP_INLINE uint32_t smap_script_map(const char *folder, size_t folder_len, const char *name,
+                                     size_t name_len, const void *text, size_t len, size_t tried,
+                                     smap_bytes *out, uint32_t *kind);
 
 /* What all names of a script have in common: those are alike for which these bytes are the same. With
  * `with_query` what those have in common that also have the same query, since a script with another query is
@@ -536,11 +554,23 @@ static inline uint32_t smap_script_name_text(const char *folder, const char *url
     return smap_script_name(folder, smap_length_(folder), url, smap_length_(url), out);
 }
 
+static inline uint32_t smap_file_kind_text(const char *name)
+{
+    return smap_file_kind(name, smap_length_(name));
+}
+
 static inline uint32_t smap_named_map_text(const char *folder, const char *name, const char *text,
                                            smap_bytes *out, uint32_t *kind)
 {
     return smap_named_map(folder, smap_length_(folder), name, smap_length_(name), text,
                           smap_length_(text), out, kind);
+}
+
+static inline uint32_t smap_script_map_text(const char *folder, const char *name, const char *text,
+                                            size_t tried, smap_bytes *out, uint32_t *kind)
+{
+    return smap_script_map(folder, smap_length_(folder), name, smap_length_(name), text,
+                           smap_length_(text), tried, out, kind);
 }
 
 static inline uint32_t smap_normal_form_text(const char *name, bool with_query, smap_bytes *out)
@@ -593,8 +623,12 @@ uint32_t smap_script_url_strict(const char *folder, size_t folder_len, const cha
                                 smap_bytes *out);
 uint32_t smap_script_name_strict(const char *folder, size_t folder_len, const char *url, size_t url_len,
                                  smap_bytes *out);
+uint32_t smap_file_kind_strict(const char *name, size_t len);
 uint32_t smap_named_map_strict(const char *folder, size_t folder_len, const char *name, size_t name_len,
                                const void *text, size_t len, smap_bytes *out, uint32_t *kind);
+uint32_t smap_script_map_strict(const char *folder, size_t folder_len, const char *name, size_t name_len,
+                                const void *text, size_t len, size_t tried, smap_bytes *out,
+                                uint32_t *kind);
 uint32_t smap_normal_form_strict(const char *name, size_t len, bool with_query, smap_bytes *out);
 uint32_t smap_alike_strict(const char *one, size_t one_len, const char *other, size_t other_len,
                            bool *out);
@@ -772,6 +806,11 @@ static inline uint32_t smap_script_name(const char *folder, size_t folder_len, c
                                    url_len, out);
 }
 
+static inline uint32_t smap_file_kind(const char *name, size_t len)
+{
+    return smap_file_kind_strict(name ? name : smap_no_text_, len);
+}
+
 static inline uint32_t smap_named_map(const char *folder, size_t folder_len, const char *name,
                                       size_t name_len, const void *text, size_t len, smap_bytes *out,
                                       uint32_t *kind)
@@ -779,6 +818,16 @@ static inline uint32_t smap_named_map(const char *folder, size_t folder_len, con
     uint32_t no_kind;
     return smap_named_map_strict(folder ? folder : smap_no_text_, folder_len, name ? name : smap_no_text_,
                                  name_len, text ? text : smap_no_text_, len, out, kind ? kind : &no_kind);
+}
+
+static inline uint32_t smap_script_map(const char *folder, size_t folder_len, const char *name,
+                                       size_t name_len, const void *text, size_t len, size_t tried,
+                                       smap_bytes *out, uint32_t *kind)
+{
+    uint32_t no_kind;
+    return smap_script_map_strict(folder ? folder : smap_no_text_, folder_len,
+                                  name ? name : smap_no_text_, name_len, text ? text : smap_no_text_, len,
+                                  tried, out, kind ? kind : &no_kind);
 }
 
 static inline uint32_t smap_normal_form(const char *name, size_t len, bool with_query, smap_bytes *out)

@@ -206,6 +206,21 @@ inline uint32_t named_map(const std::string &folder, const std::string &name, co
                           out.handle(), &kind);
 }
 
+/* The next of the maps that this script may have, after so many that can't be had: the first that can is its
+ * map. */
+inline uint32_t script_map(const std::string &folder, const std::string &name, const std::string &text,
+                           size_t tried, Bytes &out, uint32_t &kind)
+{
+    return smap_script_map(folder.data(), folder.size(), name.data(), name.size(), text.data(), text.size(),
+                           tried, out.handle(), &kind);
+}
+
+/* What a file is by the end of its name, one of SMAP_FILE_... */
+inline uint32_t file_kind(const std::string &name)
+{
+    return smap_file_kind(name.data(), name.size());
+}
+
 /* What all names of a script have in common, or with_query those that have the same query too. */
 inline uint32_t normal_form(const std::string &name, Bytes &out, bool with_query = false)
 {

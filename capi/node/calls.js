@@ -402,6 +402,13 @@ function callsOf(x, host) {
     return toldBytes(withTexts([text], (to, n) => call.script_link(to, n, isCss)));
   };
 
+  native.scriptMap = (folder, name, text, tried) => {
+    const many = number(tried);
+    const code = withTexts([folder, name, text], (...held) => call.script_map(...held, many));
+    const kind = u32(YES);
+    return [kind, toldBytes(code)];
+  };
+
   native.areAlike = (one, other) => {
     check(withTexts([one, other], call.are_alike));
     return u32(YES) !== 0;

@@ -5,6 +5,7 @@ const fs = require('node:fs');
 const path = require('node:path');
 const { debuglog } = require('node:util');
 const { SourceMap, SmapError, scriptLink, resolveLink, inlineMap, fileUrl, filePath } = require('./index.js');
+const native = require('./native.js');
 const { nodesMap } = require('./compiled.js');
 const { isOfPackage } = require('./packages.js');
 
@@ -73,11 +74,48 @@ function hooked(name) {
   return fileHooks.only ? '' : null;
 }
 
-const readFile = name => files.get(name) ?? hooked(name) ?? readDisk(name);
+// The text of a file or a script, and whether it is the disk's.
+function found(name) {
+  const text = files.get(name) ?? hooked(name);
+  return text === null ? { text: readDisk(name), isFile: true } : { text, isFile: false };
+}
 
-// What is read of the map that a script names, or null.
-function namedMap(script) {
-  const link = scriptLink(readFile(script));
+const readFile = name => found(name).text;
+
+// The file of a script of this machine: the root of its file system, and its name there; or null.
+function placeOf(script) {
+  try {
+    const file = fileOf(script);
+    const { root } = path.parse(file ?? '');
+    return root && { root, name: file.slice(root.length).replaceAll(path.sep, '/') };
+  } catch {
+    return null;
+  }
+}
+
+// What a script names for its map, as smap.h numbers it.
+const NAMED_INLINE = 2, NAMED_FILE = 3;
+
+// The map of a script of this machine, or null: of those that the library says it may have the first that can be
+// read. They may be anywhere here. One next to the script isn't that of something else that was compiled for it.
+function ownMap(script, { text, isFile }) {
+  const place = placeOf(script);
+  for (let tried = 0; place; tried++) {
+    const [kind, bytes] = native.scriptMap(place.root, place.name, text, tried);
+    const isNamed = tried === 0 && (kind === NAMED_INLINE || kind === NAMED_FILE);
+    if (bytes === null || !(isNamed || isFile)) break;
+    if (isNamed && kind === NAMED_INLINE) return { url: script, map: bytes };
+    const file = path.join(place.root, bytes.toString());
+    const url = fileUrl(whole(script)) === null ? fileUrl(file) : file;
+    const map = readFile(url);
+    if (map) return { url, map };
+  }
+  return null;
+}
+
+// What is read of a map elsewhere that a script names, or null; throws where it names none.
+function linkedMap(script, code) {
+  const link = scriptLink(code);
   // An empty one leads to the script itself.
   if (!link) return null;
   const map = inlineMap(link);
@@ -98,7 +136,9 @@ function retrieve(script) {
   }
   if (mapHooks.only) return null;
   const map = files.has(script) ? null : nodesMap(script);
-  return map ? { url: script, map } : namedMap(script);
+  if (map) return { url: script, map };
+  const it = found(script);
+  return ownMap(script, it) ?? linkedMap(script, it.text);
 }
 
 /** The text of a script's map and its URL or path; null if there is none, or the script names it wrongly. */

@@ -254,6 +254,54 @@ pub fn named_map(folder: &[u8], name: &[u8], text: &[u8]) -> Result<Named, LinkE
     })
 }
 
+/// A map that a script may have.
+#[derive(Clone, Debug, PartialEq, Eq)]
+pub enum Candidate {
+    /// The map itself.
+    Map(Vec<u8>),
+    /// A file below the script's folder, by its name there.
+    File(Vec<u8>),
+}
+
+/// The next of the maps that the script, or the style sheet, with this name below a folder may have, after so
+/// many that can't be had: first the one that it names, then the file next to it. The first that can be had is
+/// its map. The folder, the name and the text are those of `named_map`.
+pub fn script_map(
+    folder: &[u8],
+    name: &[u8],
+    text: &[u8],
+    tried: usize,
+) -> Result<Option<Candidate>, LinkError> {
+    let (at, folder_len, name_at, name_len) = (folder.as_ptr(), folder.len(), name.as_ptr(), name.len());
+    let (from, len, mut kind) = (text.as_ptr(), text.len(), NAMED_NOTHING);
+    let found = given(|out| unsafe {
+        smap_script_map(at, folder_len, name_at, name_len, from, len, tried, out, &mut kind)
+    })?;
+    Ok(found.map(|map| match (kind, tried) {
+        (NAMED_INLINE, 0) => Candidate::Map(map),
+        _ => Candidate::File(map),
+    }))
+}
+
+/// What a file is by the end of its name.
+#[derive(Clone, Copy, Debug, PartialEq, Eq)]
+pub enum FileKind {
+    Other,
+    Script,
+    StyleSheet,
+    Map,
+}
+
+/// What a file with this name is.
+pub fn file_kind(name: &[u8]) -> FileKind {
+    match unsafe { smap_file_kind(name.as_ptr(), name.len()) } {
+        FILE_SCRIPT => FileKind::Script,
+        FILE_STYLE_SHEET => FileKind::StyleSheet,
+        FILE_MAP => FileKind::Map,
+        _ => FileKind::Other,
+    }
+}
+
 /// What all names of a script have in common, or `with_query` those that have the same query too.
 pub fn normal_form(name: &[u8], with_query: bool) -> Result<Vec<u8>, LinkError> {
     let call = |out| unsafe { smap_normal_form(name.as_ptr(), name.len(), with_query, out) };
@@ -690,6 +738,10 @@ mod raw {
     pub const HIDE_IGNORED: u32 = 1;
     pub const ANYWHERE: u32 = 2;
     pub const IGNORE_QUERY: u32 = 4;
+    pub const FILE_OTHER: u32 = 0;
+    pub const FILE_SCRIPT: u32 = 1;
+    pub const FILE_STYLE_SHEET: u32 = 2;
+    pub const FILE_MAP: u32 = 3;
     pub const NAMED_UNSAID: u32 = 0;
     pub const NAMED_NOTHING: u32 = 1;
     pub const NAMED_INLINE: u32 = 2;
@@ -894,9 +946,14 @@ mod raw {
         pub fn smap_script_name(
             folder: *const u8, folder_len: usize, url: *const u8, url_len: usize, out: *mut Bytes,
         ) -> u32;
+        pub fn smap_file_kind(name: *const u8, len: usize) -> u32;
         pub fn smap_named_map(
             folder: *const u8, folder_len: usize, name: *const u8, name_len: usize, text: *const u8,
             len: usize, out: *mut Bytes, kind: *mut u32,
+        ) -> u32;
+        pub fn smap_script_map(
+            folder: *const u8, folder_len: usize, name: *const u8, name_len: usize, text: *const u8,
+            len: usize, tried: usize, out: *mut Bytes, kind: *mut u32,
         ) -> u32;
         pub fn smap_normal_form(name: *const u8, len: usize, with_query: bool, out: *mut Bytes) -> u32;
         pub fn smap_alike(

@@ -359,7 +359,7 @@ def name_like(dice, script):
     path = script[len("http://h") :]
     begins = [("HTTP://h", True), ("http://H:80", True), ("http://h/./x/..", True), ("https://h", False)]
     begin, is_alike = dice.choice([*begins, ("http://h:8080", False), ("http://h/m", False)])
-    ends = [("", True), ("?v=4", False), ("#x", True), ("?" * dice.randrange(1, 3000), False), ("x", False)]
+    ends = [("", True), ("?v=4", True), ("#x", True), ("?" * dice.randrange(1, 3000), True), ("x", False)]
     end, has_end = dice.choice([ends[0], ends[0], *ends])
     return begin + path + end, is_alike and has_end
 

@@ -91,10 +91,9 @@ class LinesTest(EventsCase):
             resource.setrlimit(resource.RLIMIT_CPU, (20, 20))
 
         frame = {"filename": SCRIPT + "?" * 80_000, "lineno": 1, "colno": 1}
-        # in a text the query is what is behind the last mark
         event = {"stacktrace": {"frames": [frame]}, "stack": f"@{SCRIPT}{'?' * 80_000}:1:1"}
         done = self.run_program(self.places, json.dumps(event).encode(), preexec_fn=bounded)
-        self.assertEqual((done.returncode, done.stdout.count(SOURCE.encode())), (0, 1), done.stderr[-1000:])
+        self.assertEqual((done.returncode, done.stdout.count(SOURCE.encode())), (0, 2), done.stderr[-1000:])
 
     def test_events_are_written_as_they_come(self):
         with self.started() as program:

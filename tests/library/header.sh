@@ -67,7 +67,7 @@ numbered() {
 }
 
 defined() {
-    sed -n 's/^\([A-Z0-9_]*\) = \([0-9]*\)$/\1 \2/p' "crates/smap_c/specs/$1.antt"
+    sed -n 's/^\([A-Z0-9_]*\) = \([0-9]*\)$/\1 \2/p' "crates/$1.antt"
 }
 
 # The same for the kinds of faults, as the definitions number and name them: `NOT_OBJECT 3` for NotObject.
@@ -79,7 +79,8 @@ named() {
 numbers_agree() {
     numbered SMAP_ | grep -v '^FAULT_' >"$work/codes"
     numbered SMAP_FAULT_ >"$work/kinds"
-    { defined Codes && defined Traces && defined Named; } | diff "$work/codes" - &&
+    { defined smap_c_answers/specs/Codes && defined smap_c/specs/Traces &&
+        defined smap_c_answers/specs/FileKinds && defined smap_c_answers/specs/Named; } | diff "$work/codes" - &&
         named | diff "$work/kinds" - &&
         [ -s "$work/codes" ] && [ -s "$work/kinds" ]
 }

@@ -18,7 +18,9 @@ from files_case import MAP, FilesCase, status
 
 sys.path.insert(0, str(Path(__file__).resolve().parents[2] / "capi" / "python"))
 import smap  # noqa: E402
+from smap._declarations import NAMED_NOTHING, NAMED_UNSAID  # noqa: E402
 from smap.files import from_end  # noqa: E402
+from smap.scripts import Folder  # noqa: E402
 
 INLINE = b"data:application/json;base64," + base64.b64encode(MAP)
 
@@ -89,7 +91,7 @@ class NamedTest(FilesCase):
 
     def test_what_is_no_script_names_nothing(self):
         self.put("dist/a", b"a")
-        for name in ("x", "x.txt", "x.JS", "x.js.bak", ".js"):
+        for name in ("x", "x.txt", "x.JS", "x.js.bak", "js"):
             self.script(name, b"a.map")
             self.assertIsNone(self.found("http://h/", "http://h/" + name), name)
 
@@ -137,7 +139,7 @@ class NamedTest(FilesCase):
             b"../secret.map", b"..%2fsecret.map", b"%2e%2e/secret.map", b"b/../../secret.map",
             b"..\\secret.map", b"%2e%2e%2fsecret.map", whole, str(self.temp / "secret.map").encode(),
             b"link.map", b"zero.map",
-            b"away/secret.map", b"http://h/m/b/in.map", b"//h/m/b/in.map", b"/b/in.map", b"file:///b/in.map",
+            b"away/secret.map", b"http://k/m/b/in.map", b"//k/m/b/in.map", b"/b/in.map", b"file:///b/in.map",
             b"file://" + str(self.dist / "b/in.map").encode(), b"b//in.map", b"b/in.map%00", b"C:/b/in.map",
         ]
         for url in rows:
@@ -148,10 +150,14 @@ class NamedTest(FilesCase):
             self.assertIn(f"{fault.file} names a map that is no file of its folder: {fault.url}", str(fault))
         again = pickle.loads(pickle.dumps(fault))
         self.assertEqual((type(again), again.file, again.url), (smap.OutsideFolder, fault.file, fault.url))
+        # a whole URL may be that of a file in it
+        for url in (b"http://h/m/b/in.map", b"//h/m/b/in.map", b"/m/b/in.map", b"HTTP://H:80/m/b/in.map"):
+            self.script("x.js", url)
+            self.assertEqual(self.found("http://h/m/", "http://h/m/x.js"), "http://h/m/b/in.map", url)
         # also where the file of the script is given, whose folder is its own
         self.script("b/y.js", b"../out.js.map")
-        places = {"http://h/y.js": self.dist / "b" / "y.js"}
-        self.assertIsInstance(self.raised("http://h/y.js", places), smap.OutsideFolder)
+        places = {"http://h/m/y.js": self.dist / "b" / "y.js"}
+        self.assertIsInstance(self.raised("http://h/m/y.js", places), smap.OutsideFolder)
 
     def test_no_spelling_leads_outside(self):
         self.put("secret", b"secret")
@@ -177,9 +183,9 @@ class NamedTest(FilesCase):
     def test_a_link_that_leads_outside_is_told_of(self):
         self.put("secret")
         self.script("x.js", b"../secret.map")
-        store, line = smap.Store({"http://h/": self.dist}), "@http://h/x.js:1:1"
+        store, line = smap.Store({"http://h/m/": self.dist}), "@http://h/m/x.js:1:1"
         self.assertEqual(store.translate(line), line)
-        self.assertIsInstance(store.broken["http://h/x.js"], smap.OutsideFolder)
+        self.assertIsInstance(store.broken["http://h/m/x.js"], smap.OutsideFolder)
         self.assertEqual(store.counts, smap.StoreCounts(lines=1, broken=1))
 
     def test_a_named_map_may_be_no_url_or_no_file(self):
@@ -238,13 +244,15 @@ class NamedTest(FilesCase):
         one, other = self.script("x.js", b"a.map"), self.write("other/m/x.js", b"f()")
         places = {"http://h/m/": self.dist, "http://h/": self.temp / "other"}
         self.assertEqual(smap.Folders(places)("http://h/m/x.js").base, "http://h/m/a.map")
+        # one that names a map that isn't there has none
         other.write_bytes(b"//# sourceMappingURL=a.map")
-        fault = self.raised("http://h/m/x.js", places)
-        self.assertIsInstance(fault, smap.Repeated)
-        self.assertEqual(fault.files, [str(one), str(other)])
-        # a map beside one of them is that of the script
-        self.put("other/m/x.js")
-        self.assertEqual(smap.Folders(places)("http://h/m/x.js").base, "http://h/m/x.js.map")
+        self.assertEqual(smap.Folders(places)("http://h/m/x.js").base, "http://h/m/a.map")
+        beside = self.put("other/m/x.js")
+        for files in ([one, beside], [one, other]):
+            fault = self.raised("http://h/m/x.js", places)
+            self.assertIsInstance(fault, smap.Repeated)
+            self.assertEqual(fault.files, [str(file) for file in files])
+            self.put("other/m/a")
 
     def test_positions_anywhere_are_those_of_scripts_that_name_maps_too(self):
         self.script("b/x.js", INLINE)
@@ -292,11 +300,12 @@ class LinkTest(FilesCase):
         for _ in range(1_500):
             text = b"".join(dice.choices(pieces, k=dice.randrange(16)))
             for name, css in (("x.js", False), ("x.css", True)):
-                self.write(name, text)
+                file = self.write(name, text)
                 with mock.patch("smap.files.FIRST_LOOK", dice.randrange(1, 12)):
-                    found = [link.url for link in find._links(str(self.temp), name)]
+                    it = find._read_script(Folder("http://h/", str(self.temp), None), name, str(file))
                 url = smap.script_link(text, css)
-                self.assertEqual(found, [] if url is None else [url], text)
+                found = None if it.kind in (NAMED_UNSAID, NAMED_NOTHING) else it.url
+                self.assertEqual(found, url, text)
                 seen.add(url)
         self.assertGreater(len(seen), 10)
 
@@ -351,17 +360,20 @@ class AlikeTest(FilesCase):
         ]:
             self.assertEqual(self.told({key: self.dist}, script), f"@{script}:1:1")
 
-    def test_another_query_is_another_script_unless_it_is_ignored(self):
+    def test_names_that_differ_in_the_query_are_one_script_unless_both_were_given(self):
         places = {"http://h/": self.dist}
         for end in ("?v=3", "?v=3#x", "?", "?#"):
             for name in ("http://h/out.js", "HTTP://H:80/out.js"):
-                self.assertEqual(self.told(places, name + end), f"@{name}{end}:1:1")
-                self.assertEqual(self.told(places, name + end, ignore_query=True), "@http://h/a.js:11:3")
+                for ignored in (False, True):
+                    self.assertEqual(self.told(places, name + end, ignore_query=ignored), "@http://h/a.js:11:3")
         one = {"http://h/out.js?v=2": self.dist / "out.js.map"}
-        self.assertEqual(self.told(one, "http://h/out.js?v=2"), "@http://h/a.js:11:3")
-        for name in ("http://h/out.js", "http://h/out.js?v=3", "HTTP://h/out.js?v=3"):
-            for ignored in (False, True):
-                self.assertEqual(self.told(one, name, ignore_query=ignored), f"@{name}:1:1")
+        for name in ("http://h/out.js?v=2", "http://h/out.js", "http://h/out.js?v=3", "HTTP://h/out.js?v=3"):
+            self.assertEqual(self.told(one, name), "@http://h/a.js:11:3")
+        self.put("two/out.js", MAP.replace(b"a.js", b"two.js"))
+        both = {**one, "http://H/out.js?v=4": self.temp / "two" / "out.js.map"}
+        self.assertEqual(self.told(both, "http://h/out.js?v=4"), "@http://h/two.js:11:3")
+        for name in ("http://h/out.js", "http://h/out.js?v=3"):
+            self.assertEqual(self.told(both, name), f"@{name}:1:1")
         # a fragment makes no other script
         for end in ("#x", "#x?v=3", "#"):
             for name in ("http://h/out.js", "HTTP://H:80/out.js"):
@@ -369,6 +381,7 @@ class AlikeTest(FilesCase):
                 one = {name + end: self.dist / "out.js.map"}
                 self.assertEqual(self.told(one, name), "@http://h/a.js:11:3")
             self.assertEqual(self.told({"http://h/#/": self.dist}, "http://h/out.js"), "@http://h/out.js:1:1")
+        # against such a base no source is a URL
         self.assertEqual(self.told({"app:u": self.dist / "out.js.map"}, "app:u?v=3"), "@app:u?v=3:1:1")
         # of a path it is a part
         self.put("dist/q?x.js")
@@ -436,8 +449,8 @@ class AlikeTest(FilesCase):
         find = smap.Folders({"http://h/": self.dist, "u": self.dist / "out.js.map"})
         for name, script in [
             ("HTTP://h/out.js", "http://h/out.js"), ("http://h/out.js", "http://h/out.js"), ("u", "u"),
-            ("HTTP://h/none.js", None), ("HTTP://h/out.js?x", None), ("U", None), ("", None),
-            ("http://h/out.js#x", "http://h/out.js"), ("http://h/out.js?x#y", None),
+            ("HTTP://h/none.js", None), ("HTTP://h/out.js?x", "http://h/out.js"), ("U", None), ("", None),
+            ("http://h/out.js#x", "http://h/out.js"), ("http://h/out.js?x#y", "http://h/out.js"),
         ]:
             self.assertEqual(find.meant_by(name), script)
             self.assertEqual(pickle.loads(pickle.dumps(find)).meant_by(name), script)

@@ -394,6 +394,44 @@ static void named_maps(void)
     smap_bytes_free(&out);
 }
 
+/* ---- the maps that the same script may have: the one that it names, if any, and the file next to it */
+
+static void script_maps(void)
+{
+    smap_bytes out = {0};
+    for (size_t i = 0; i < sizeof names / sizeof names[0]; i++) {
+        size_t named = names[i].code == SMAP_OK;
+        for (size_t tried = 0; tried < 4; tried++) {
+            bool is_there = tried <= named;
+            uint32_t kind = 99;
+            CHECK(smap_data_url(STRING("data:,-"), &out) == SMAP_OK);
+            CHECK(smap_script_map(STRING("http://h/m/"), STRING("a.js"), STRING(names[i].text), tried, &out,
+                                  &kind) == (is_there ? SMAP_OK : SMAP_NONE));
+            CHECK(kind == names[i].kind);
+            CHECK(holds(&out, tried < named ? names[i].held : is_there ? "a.js.map" : "-"));
+        }
+    }
+    CHECK(smap_script_map(STRING("/"), STRING("l/a.css"), STRING("/*# sourceMappingURL=b */"), 0, &out,
+                          NULL) == SMAP_OK);
+    CHECK(holds(&out, "l/b"));
+    CHECK(smap_script_map(NULL, 0, NULL, 0, NULL, 0, 0, &out, NULL) == SMAP_OK && holds(&out, ".map"));
+    CHECK(smap_script_map(NULL, 0, NULL, 0, NULL, 0, SIZE_MAX, &out, NULL) == SMAP_NONE);
+    smap_bytes_free(&out);
+}
+
+static void file_kinds(void)
+{
+    CHECK(smap_file_kind(STRING("a.js")) == SMAP_FILE_SCRIPT);
+    CHECK(smap_file_kind(STRING("d/a.b.mjs")) == SMAP_FILE_SCRIPT);
+    CHECK(smap_file_kind(STRING(".cjs")) == SMAP_FILE_SCRIPT);
+    CHECK(smap_file_kind(STRING("a.css")) == SMAP_FILE_STYLE_SHEET);
+    CHECK(smap_file_kind(STRING("a.js.map")) == SMAP_FILE_MAP);
+    CHECK(smap_file_kind(STRING("a.jsx")) == SMAP_FILE_OTHER);
+    CHECK(smap_file_kind(STRING("a.JS")) == SMAP_FILE_OTHER);
+    CHECK(smap_file_kind(STRING("js")) == SMAP_FILE_OTHER);
+    CHECK(smap_file_kind(NULL, 0) == SMAP_FILE_OTHER);
+}
+
 static void links(void)
 {
     smap_bytes out = {0};
@@ -550,6 +588,8 @@ int main(void)
     scripts_of(&map);
     links();
     named_maps();
+    script_maps();
+    file_kinds();
     ways_of(&map);
     callers_with_bool(&map);
     faults();

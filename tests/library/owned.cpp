@@ -63,6 +63,9 @@ int main()
     uint32_t kind = 99;
     CHECK(smap::named_map("/s/", "a.js", "//# sourceMappingURL=b%20c.map", bytes, kind) == SMAP_OK);
     CHECK(kind == SMAP_NAMED_FILE && smap::text(bytes) == "b c.map");
+    CHECK(smap::script_map("/s/", "a.js", "", 0, bytes, kind) == SMAP_OK);
+    CHECK(kind == SMAP_NAMED_UNSAID && smap::text(bytes) == "a.js.map");
+    CHECK(smap::file_kind("a.css") == SMAP_FILE_STYLE_SHEET);
     CHECK(smap::normal_form("HTTP://H:80/a.js?x", bytes) == SMAP_OK && smap::text(bytes) == "http://h/a.js");
     std::string query;
     CHECK(smap::normal_form("HTTP://H:80/a.js?x#y", bytes, true) == SMAP_OK);

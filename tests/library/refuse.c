@@ -164,6 +164,37 @@ static uint32_t named_elsewhere(void)
     return named("http://k/a.map", SMAP_NAMED_LEAVES);
 }
 
+/* The map of a script below a folder with this URL, which names this one, after so many that can't be had. */
+static uint32_t script_map(const char *url, size_t tried)
+{
+    char text[64];
+    uint32_t kind = 99, code;
+    int len = snprintf(text, sizeof text, "//# sourceMappingURL=%s", url);
+    code = smap_script_map("http://h/", 9, "a b.js", 6, text, (size_t)len, tried, &out, &kind);
+    CHECK((kind == 99) == (code == SMAP_MEMORY));
+    return code;
+}
+
+static uint32_t map_named(void)
+{
+    return script_map("%61.map", 0);
+}
+
+static uint32_t map_beside(void)
+{
+    return script_map("%61.map", 1);
+}
+
+static uint32_t map_inline(void)
+{
+    return script_map("data:;base64,e3%30", 0);
+}
+
+static uint32_t no_more_maps(void)
+{
+    return script_map("%61.map", 2);
+}
+
 static uint32_t resolve(void)
 {
     return smap_resolve("/a b.js", 7, "a.map", 5, &out);
@@ -228,6 +259,10 @@ int main(void)
     refuse("a map within a script", named_inline, SMAP_OK);
     refuse("the file that a script names", named_file, SMAP_OK);
     refuse("a script that names no file of its folder", named_elsewhere, SMAP_NONE);
+    refuse("the map that a script names", map_named, SMAP_OK);
+    refuse("the map next to a script", map_beside, SMAP_OK);
+    refuse("the map that a script holds", map_inline, SMAP_OK);
+    refuse("no more maps of a script", no_more_maps, SMAP_NONE);
     refuse("resolve", resolve, SMAP_OK);
     refuse("a normal form", normal_form, SMAP_OK);
     refuse("names that are alike", alike, SMAP_OK);

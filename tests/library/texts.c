@@ -70,6 +70,9 @@ static void links(void)
     CHECK(smap_script_name_text("/s/", "/s/a b.js", &out) == SMAP_OK && holds(&out, "a b.js"));
     CHECK(smap_named_map_text("/s/", "a.js", "//# sourceMappingURL=%61", &out, NULL) == SMAP_OK);
     CHECK(holds(&out, "a"));
+    CHECK(smap_script_map_text("/s/", "a.js", "//# sourceMappingURL=%61", 1, &out, NULL) == SMAP_OK);
+    CHECK(holds(&out, "a.js.map"));
+    CHECK(smap_file_kind_text("a.mjs") == SMAP_FILE_SCRIPT && smap_file_kind_text(NULL) == SMAP_FILE_OTHER);
     CHECK(smap_normal_form_text("HTTP://H:80/a.js?x#y", false, &out) == SMAP_OK);
     CHECK(holds(&out, "http://h/a.js"));
     CHECK(smap_alike_text("c:\\a.js", "file:///C:/a.js", &flag) == SMAP_OK && flag);

@@ -2,8 +2,8 @@
 #[path = "../../capi/rust/smap.rs"]
 mod smap;
 
-use smap::{Counts, Error, Limits, Line, ListedMapping, Map, Mapping, Named, Scripts, TraceCounts};
-use smap::TraceOptions;
+use smap::{Candidate, Counts, Error, FileKind, Limits, Line, ListedMapping, Map, Mapping, Named, Scripts};
+use smap::{TraceCounts, TraceOptions};
 
 const BASE: &str = "http://h/m/out.js.map";
 const TEXT: &[u8] = br#"{"version":3,"file":"out.js","sources":["a.js","b.js","a.js",null],
@@ -163,6 +163,15 @@ fn names_of_maps() {
     for (text, wanted) in rows {
         assert_eq!(named(text), wanted);
     }
+    let next = |text: &[u8], tried| smap::script_map(b"http://h/m/", b"a.js", text, tried).unwrap();
+    let beside = Some(Candidate::File(b"a.js.map".to_vec()));
+    let inline = b"//# sourceMappingURL=data:;base64,e30";
+    assert_eq!(next(inline, 0), Some(Candidate::Map(b"{}".to_vec())));
+    assert_eq!((next(inline, 1), next(inline, 2)), (beside.clone(), None));
+    assert_eq!(next(b"//# sourceMappingURL=b%20c.map", 0), Some(Candidate::File(b"b c.map".to_vec())));
+    assert_eq!((next(b"f()", 0), next(b"f()", 1)), (beside, None));
+    let kinds = [&b"a.cjs"[..], b"a.css", b"a.map", b"a"].map(smap::file_kind);
+    assert_eq!(kinds, [FileKind::Script, FileKind::StyleSheet, FileKind::Map, FileKind::Other]);
 }
 
 fn main() -> Result<(), Error> {

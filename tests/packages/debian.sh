@@ -56,19 +56,6 @@ removes_program() {
         [ -z "$(in_root dpkg-query -W 'smap*' 2>/dev/null)" ]
 }
 
-# Debian's package that wants the instructions is installed first, and on a processor without them it isn't:
-# then smap isn't unpacked. The program that looks at the processor is made to say so.
-says_processor_is_old() {
-    apt install isa-support || return 1
-    for file in "$root"/usr/libexec/*/isa-support/test-*; do
-        printf '#!/bin/sh\nexit 1\n' | as_root tee "$file" >"$work/tester" || return 1
-    done
-    ! apt install "/try/smap_${debian_version}_amd64.deb" >"$work/said" 2>&1 || return 1
-    cat "$work/said"
-    grep "^This machine doesn't support" "$work/said" && [ ! -e "$root/usr/bin/smap" ] &&
-        apt purge --autoremove isa-support
-}
-
 installs_all() {
     contents >"$work/before"
     # shellcheck disable=SC2046
@@ -159,7 +146,6 @@ test_debian() {
 
 test_program() {
     try 'the root has no compiler and no Python' is_bare
-    try 'a processor that is too old is told of, and nothing is installed' says_processor_is_old
     try 'smap is installed' installs_program
     try 'smap runs the first example of README' runs_example
     try 'smap and the scripts say their number' says_number

@@ -48,15 +48,25 @@ installs_wheel() {
             "$python_version $library_version" ]
 }
 
-# pip takes both wheels for musl too, and not for another processor. INSTALL has their names.
+# pip takes these wheels for musl too, and not for another processor. INSTALL has their names.
 takes_wheels() {
+    platform=$1
+    shift
     "$venv/bin/python" -m pip download --no-index --disable-pip-version-check --no-deps --only-binary :all: \
-        --platform "$1" --dest "$work/taken" "$wheel" "$programs"
+        --platform "$platform" --dest "$work/taken" "$@"
 }
 
 wheels_are_for_musl() {
-    takes_wheels musllinux_1_1_x86_64 && ! takes_wheels musllinux_1_1_aarch64 &&
-        grep -F "${wheel##*/}" docs/INSTALL.md && grep -F "${programs##*/}" docs/INSTALL.md
+    takes_wheels musllinux_1_1_x86_64 "$wheel" "$programs" &&
+        ! takes_wheels musllinux_1_1_aarch64 "$wheel" "$programs" || return 1
+    [ -z "$arm_wheel" ] || {
+        takes_wheels musllinux_1_1_aarch64 "$arm_wheel" "$arm_programs" &&
+            takes_wheels manylinux_2_17_aarch64 "$arm_wheel" "$arm_programs" &&
+            ! takes_wheels musllinux_1_1_x86_64 "$arm_wheel" "$arm_programs" || return 1
+    }
+    for file in "$wheel" "$programs" $arm_wheel $arm_programs; do
+        grep -F "${file##*/}" docs/INSTALL.md || return 1
+    done
 }
 
 wheel_runs_program() {
@@ -162,7 +172,7 @@ with_npm() (
 
 # npm finds the package for the platform beside the one that the line of README names.
 installs_npm() {
-    mkdir "$project" "$work/npm-home" && cp "$npm_tgz" "$npm_platform_tgz" "$project" &&
+    mkdir "$project" "$work/npm-home" && cp "$dist"/smap-*.tgz "$project" &&
         echo '{"private":true}' >"$project/package.json" && install_line 'npm install' >"$work/line" &&
         with_npm sh "$work/line" &&
         [ "$(cd "$project" && node -p "require('smap').version")" = "$library_version" ]
@@ -207,19 +217,29 @@ npm_has_what_it_names() {
         ! find "$project/node_modules/smap" -name '*.[ch]' -o -name '*.sh' -o -name test | grep .
 }
 
+lacks_platform() {
+    [ -z "$(find "$project/node_modules" -maxdepth 1 -name 'smap-*')" ]
+}
+
+# On ARM the package for it is taken, and no other.
+npm_takes_arm() {
+    with_npm npm ci --os=linux --cpu=arm64 &&
+        [ "$(cd "$project/node_modules" && echo smap-*)" = smap-linux-arm64 ] && with_npm npm ci
+}
+
 # A project that was installed here, on a machine with another system: from its lock file, and from the start.
 npm_leaves_platform_out() {
     set -- --os=darwin --cpu=arm64
-    with_npm npm ci "$@" && ! [ -e "$project/node_modules/smap-linux-x64" ] || return 1
+    with_npm npm ci "$@" && lacks_platform || return 1
     echo 'Object.defineProperty(process, "platform", { value: "darwin" })' >"$project/mac.cjs"
     says_it='smap/register: smap runs on .*, and this is darwin-x64: .*'
     (cd "$project/programs" && node --require ../mac.cjs --require smap/register thrown.js 2>written
         grep -F "at f ($PWD/a.ts:3:7)" written || return 1
         grep -x "$says_it" written
         [ "$?" -eq "$([ -e ../node_modules/smap/smap.wasm ] && echo 1 || echo 0)" ]) || return 1
-    [ ! -e "$project/node_modules/smap/smap.wasm" ] || npm_runs_programs || return 1
+    [ ! -e "$project/node_modules/smap/smap.wasm" ] || { npm_runs_programs && npm_has_commands; } || return 1
     (cd "$project" && rm -rf node_modules package-lock.json && echo '{"private":true}' >package.json) &&
-        with_npm npm install "$@" "./${npm_tgz##*/}" && ! [ -e "$project/node_modules/smap-linux-x64" ] &&
+        with_npm npm install "$@" "./${npm_tgz##*/}" && lacks_platform &&
         with_npm npm ci && [ "$(cd "$project" && node -p "require('smap').version")" = "$library_version" ]
 }
 
@@ -231,17 +251,17 @@ yarn_project=$work/yarn-project
 
 # The same with yarn, whose modules in Debian only Debian's own Node searches.
 with_yarn() (
-    cd "$yarn_project" && HOME=$work/npm-home NODE_PATH=/usr/share/nodejs yarnpkg --offline \
+    cd "$yarn_project" && HOME=$work/npm-home NODE_PATH=/usr/share/nodejs yarnpkg --offline --ignore-platform \
         --cache-folder "$work/$1" "$2" "$3"
 )
 
 # By the words of the manual; and once more by the lock file that this made, with an empty cache.
 installs_yarn() {
     resolution=$(grep -o '"resolutions": {[^`]*}' capi/node/README.md) &&
-        line=$(grep -o 'yarn add [^`]*' capi/node/README.md) || return 1
-    mkdir "$yarn_project" && cp "$npm_tgz" "$npm_platform_tgz" "$yarn_project" &&
+        line=$(grep -o 'yarn add --ignore-platform [^`]*' capi/node/README.md) || return 1
+    mkdir "$yarn_project" && cp "$dist"/smap-*.tgz "$yarn_project" &&
         echo "{\"private\":true,$resolution}" >"$yarn_project/package.json" &&
-        with_yarn yarn add "${line#yarn add }" && yarn_has_all && rm -r "$yarn_project/node_modules" &&
+        with_yarn yarn add "${line##* }" && yarn_has_all && rm -r "$yarn_project/node_modules" &&
         with_yarn yarn-again install --frozen-lockfile && yarn_has_all
 }
 
@@ -269,6 +289,7 @@ test_npm() {
     try 'the package for npm has the commands' npm_has_commands
     try 'the package for npm has what its manual links to, and nothing of no use' npm_has_what_it_names
     if npm_takes_system; then
+        [ ! -e "$npm_arm_tgz" ] || try 'the package for npm is installed on ARM' npm_takes_arm
         try 'the package for npm is installed on another system, without the addon' npm_leaves_platform_out
     else
         leave_out 'the package for npm on another system' 'npm here has no --os'

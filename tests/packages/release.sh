@@ -6,9 +6,22 @@ dist=$work/dist
 archive=smap-$version-linux-x86_64
 debs="$dist/smap_${debian_version}_amd64.deb $dist/libsmap0_${debian_version}_amd64.deb
     $dist/libsmap-dev_${debian_version}_amd64.deb $dist/python3-smap_${debian_version}_all.deb"
+arm_archive=smap-$version-linux-aarch64
+arm_debs=
 
 makes() {
     SMAP=$SMAP SMAP_CAPI=$lib tools/build-packages "$dist"
+}
+
+# Those for 64-bit ARM are made where the program and the library for it are.
+counts_arm() {
+    if [ -e "$dist/$arm_archive.tar.gz" ]; then
+        for name in smap libsmap0 libsmap-dev; do
+            arm_debs="$arm_debs $dist/${name}_${debian_version}_arm64.deb"
+        done
+    else
+        leave_out 'what is for aarch64' "$(sed -n 's/^build-packages: what is for aarch64 is left out: //p' "$work/log")"
+    fi
 }
 
 # The packages for Node are made where Node's headers are, and those for npm where npm is.
@@ -16,6 +29,7 @@ counts_node() {
     node_deb=$dist/node-smap_${debian_version}_amd64.deb
     npm_tgz=$dist/smap-$version.tgz
     npm_platform_tgz=$dist/smap-linux-x64-$version.tgz
+    npm_arm_tgz=$dist/smap-linux-arm64-$version.tgz
     [ ! -e "$node_deb" ] || debs="$debs $node_deb"
     why=$(sed -n 's/^build-packages: .* is left out: //p' "$work/log" | sed 1q)
     for file in "$node_deb" "$npm_tgz"; do
@@ -25,8 +39,10 @@ counts_node() {
 
 # The packages for Python are made where the tools for them are.
 counts_python() {
-    wheel=$(find "$dist" -name 'smap-*.whl')
-    programs=$(find "$dist" -name 'smap_programs-*.whl')
+    wheel=$(find "$dist" -name 'smap-*_x86_64.whl')
+    programs=$(find "$dist" -name 'smap_programs-*_x86_64.whl')
+    arm_wheel=$(find "$dist" -name 'smap-*_aarch64.whl')
+    arm_programs=$(find "$dist" -name 'smap_programs-*_aarch64.whl')
     sdist=$(find "$dist" -name "smap-$python_version.tar.gz")
     [ -n "$wheel" ] ||
         leave_out 'the wheels' "$(sed -n 's/^build-packages: the wheels are left out: //p' "$work/log" | sed 1q)"
@@ -53,18 +69,22 @@ source_makes_the_same() {
         cd "$work/source/smap" && SMAP_CAPI=$lib DEB_BUILD_PROFILES=$profiles &&
             export SMAP SMAP_CAPI DEB_BUILD_PROFILES && dpkg-buildpackage --build=binary -d --unsigned-changes
     ) || return 1
-    for package in "$dist"/*.deb; do
+    for package in "$dist"/*_amd64.deb "$dist"/*_all.deb; do
         cmp "$package" "$work/source/${package##*/}" || return 1
     done
 }
 
-# The Debian packages with two of symbols, and their source in two files, the archive, those for Python and
-# for npm, and the sum of each.
+# The Debian packages with two of symbols for each processor, and their source in two files, the archives, those for
+# Python and for npm, the page, and the sum of each.
 sums() {
     # shellcheck disable=SC2086
-    set -- $debs
+    set -- $debs $arm_debs
+    [ -z "$arm_debs" ] || set -- "$@" symbols symbols "$arm_archive.tar.gz"
     [ ! -e "$npm_tgz" ] || set -- "$@" "$npm_tgz" "$npm_platform_tgz"
+    [ ! -e "$npm_arm_tgz" ] || set -- "$@" "$npm_arm_tgz"
     [ -z "$wheel" ] || set -- "$@" "$wheel" "$programs" "$sdist"
+    [ -z "$arm_wheel" ] || set -- "$@" "$arm_wheel" "$arm_programs"
+    [ ! -e "$dist/smap.html" ] || set -- "$@" smap.html
     wanted=$(($# + 5))
     (
         cd "$dist" && sha256sum -c SHA256SUMS &&
@@ -77,9 +97,22 @@ unpacks() {
     mkdir "$work/unpacked" || return 1
     for package in "$dist"/*.deb; do
         name=${package##*/}
-        dpkg-deb -R "$package" "$work/unpacked/${name%%_*}" || return 1
+        case $name in
+        *_arm64.deb) name=arm64-${name%%_*} ;;
+        *) name=${name%%_*} ;;
+        esac
+        dpkg-deb -R "$package" "$work/unpacked/$name" || return 1
     done
-    mkdir "$work/unpacked/archive" && tar -xzf "$dist/$archive.tar.gz" -C "$work/unpacked/archive" || return 1
+    for name in "$dist"/smap-*-linux-*.tar.gz; do
+        mkdir -p "$work/unpacked/archive" && tar -xzf "$name" -C "$work/unpacked/archive" || return 1
+    done
+    if [ -n "$arm_wheel" ]; then
+        python3 -m zipfile -e "$arm_wheel" "$work/unpacked/arm-wheel" &&
+            python3 -m zipfile -e "$arm_programs" "$work/unpacked/arm-programs" || return 1
+    fi
+    if [ -e "$npm_arm_tgz" ]; then
+        mkdir "$work/unpacked/npm-arm" && tar -xzf "$npm_arm_tgz" -C "$work/unpacked/npm-arm" || return 1
+    fi
     if [ -n "$wheel" ]; then
         mkdir "$work/unpacked/sdist" && tar -xzf "$sdist" -C "$work/unpacked/sdist" &&
             python3 -m zipfile -e "$wheel" "$work/unpacked/wheel" &&
@@ -91,13 +124,13 @@ unpacks() {
         tar -xzf "$npm_platform_tgz" -C "$work/unpacked/npm-platform"
 }
 
-# Looks in each file, once it is decompressed, for this folder, the home, the kit's folder and the one for
-# temporary files, which the page OUTPUT.md has in a list.
+# Looks in each file, once it is decompressed, for a path below this folder, the home, the kit's folder or the one for
+# temporary files. The page OUTPUT.md has these in a list, and a rule of lint knows some by name.
 names_no_folder() {
     printf '%s/\n' "$top" "${HOME%/}" "${TMPDIR:-/tmp}" "$(dirname "$(rt doc 2>/dev/null)")" |
-        grep '[a-z]' >"$work/folders"
+        grep '[a-z]' | sed 's/$/[A-Za-z0-9._-]/' >"$work/folders"
     find "$work/unpacked" -name '*.gz' -exec gzip -d {} +
-    ! grep -r -a -F -f "$work/folders" -l --exclude=OUTPUT.md "$work/unpacked"
+    ! grep -r -a -E -f "$work/folders" -l --exclude=OUTPUT.md "$work/unpacked"
 }
 
 # Everything in the Debian packages, their source and the packages for npm belongs to root, and is of the time of
@@ -109,7 +142,7 @@ belongs_to_root() (
         dpkg-deb -c "$package"
     done >"$work/contents" || return 1
     tar -tvJf "$dist/smap_$debian_version.tar.xz" | sed 's| 0/0 | root/root |' >>"$work/contents"
-    [ ! -e "$npm_tgz" ] || for file in "$npm_tgz" "$npm_platform_tgz"; do
+    [ ! -e "$npm_tgz" ] || for file in "$dist"/smap-*.tgz; do
         tar -tvzf "$file" | sed 's| 0/0 | root/root |' >>"$work/contents"
     done
     time=$(date -d "@$(tools/version time)" '+%Y-%m-%d %H:%M')
@@ -134,7 +167,8 @@ names_maintainer() (
     says_maintainer "$dist" 'smap maintainers <smap@example.invalid>' || return 1
     SMAP=$work/small
     echo 'int main(void) { return 0; }' | cc -static -x c -o "$SMAP" - || return 1
-    SMAP_CAPI=$lib
+    SMAP_CAPI=$work/native
+    cp -R "$lib" "$SMAP_CAPI" && rm -rf "$SMAP_CAPI/aarch64" || return 1
     export SMAP SMAP_CAPI
     DEBEMAIL=ada@example.org DEBFULLNAME='Ada R&D/Lovelace' tools/build-packages "$work/ada" &
     DEBEMAIL='Zoë <zoe@example.org>' tools/build-packages "$work/zoe" && wait "$!" &&
@@ -154,7 +188,7 @@ refuses_maintainer() {
 # Each in its form; and what comes before a release is replaced by it.
 numbers() {
     dpkg --compare-versions "$debian_version" le "$library_version" || return 1
-    for package in $debs; do
+    for package in $debs $arm_debs; do
         [ "$(dpkg-deb -f "$package" Version)" = "$debian_version" ] || return 1
         [ "$(dpkg-deb -f "$package" Installed-Size)" -gt 0 ] || return 1
     done
@@ -162,7 +196,9 @@ numbers() {
     [ ! -e "$npm_tgz" ] || for folder in npm npm-platform; do
         grep -x "  \"version\": \"$version\"," "$work/unpacked/$folder/package/package.json" || return 1
     done
-    for folder in libsmap-dev/usr/lib/x86_64-linux-gnu "archive/$archive/lib"; do
+    set -- libsmap-dev/usr/lib/x86_64-linux-gnu "archive/$archive/lib"
+    [ -z "$arm_debs" ] || set -- "$@" arm64-libsmap-dev/usr/lib/aarch64-linux-gnu "archive/$arm_archive/lib"
+    for folder in "$@"; do
         grep -x "Version: $library_version" "$work/unpacked/$folder/pkgconfig/smap.pc" || return 1
     done
     module=usr/lib/python3/dist-packages/smap-$python_version.dist-info
@@ -172,6 +208,18 @@ numbers() {
     for file in "$@"; do
         grep -x "Version: $python_version" "$work/unpacked/$file" || return 1
     done
+}
+
+# Everything that is compiled for a processor is in the packages of its name.
+is_for_its_processor() {
+    find "$work/unpacked" -type f \( -path '*/bin/smap' -o -path '*/smap_programs/smap' -o -name 'libsmap.so.0' \
+        -o -name smap.node \) >"$work/compiled.list"
+    while IFS= read -r file; do
+        machine='Advanced Micro Devices X86-64'
+        case ${file#"$work/unpacked/"} in arm* | npm-arm* | *linux-aarch64*) machine=AArch64 ;; esac
+        readelf -h "$file" | grep "Machine: *$machine" || return 1
+    done <"$work/compiled.list" >"$work/machines"
+    [ -z "$arm_debs" ] || [ "$(grep -c AArch64 "$work/machines")" -ge 4 ]
 }
 
 # What the programs say has the commit before a release; the wheel has that of the archive. The source package has
@@ -269,12 +317,13 @@ lintian_is_content() {
     grep '^[EW]: ' "$work/lintian" | grep -v -e ' no-copyright-file$' -e ' no-debian-copyright-in-source$' \
         -e '-dbgsym: debug-file-with-no-debug-symbols ' && return 1
     # shellcheck disable=SC2086
-    set -- $debs
+    set -- $debs $arm_debs
     [ "$(grep -c '^E: .* no-copyright-file$' "$work/lintian")" -eq $# ]
 }
 
 test_release() {
     try 'the packages are made' makes || return 1
+    counts_arm
     counts_python
     counts_node
     try 'the packages are made again out of their source, with the same bytes' makes_the_same
@@ -288,6 +337,7 @@ test_release() {
     try 'the Debian packages name their maintainer' names_maintainer
     try 'what is no maintainer is refused' refuses_maintainer
     try 'the programs and the libraries want no other library' wants_no_library
+    try 'what is compiled is for the processor that its package names' is_for_its_processor
     try 'the Debian packages have the pages that their files name' has_pages
     try 'the Debian package of the library has its symbols' has_symbols
     try 'there are packages with the symbols that were stripped' keeps_all_symbols

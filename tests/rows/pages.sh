@@ -53,4 +53,5 @@ stand_in_for_repository() {
 mkdir -p capi/out && cd capi/out && touch libsmap.a libsmap.so.0 smap.h smap.pc
 END
     printf '#!/bin/sh\nmkdir -p dist\n' >temp/tools/build-packages
+    cp temp/tools/build-packages temp/tools/build
 }

@@ -12,8 +12,10 @@ misnamed() {
     while IFS= read -r name; do
         case $name in
         smap-"$python".tar.gz | smap-"$python"-py3-none-*.whl | smap_programs-"$python"-py3-none-*.whl) ;;
-        smap-"$number".tgz | smap-linux-x64-"$number".tgz | smap-"$number"-linux-x86_64.tar.gz) ;;
-        *smap*_"$debian"_amd64.deb | *smap*_"$debian"_all.deb | smap_"$debian".dsc | smap_"$debian".tar.xz) ;;
+        smap-"$number".tgz | smap-linux-x64-"$number".tgz | smap-linux-arm64-"$number".tgz) ;;
+        smap-"$number"-linux-x86_64.tar.gz | smap-"$number"-linux-aarch64.tar.gz) ;;
+        *smap*_"$debian"_amd64.deb | *smap*_"$debian"_arm64.deb | *smap*_"$debian"_all.deb) ;;
+        smap_"$debian".dsc | smap_"$debian".tar.xz) ;;
         *) echo "$name" ;;
         esac
     done

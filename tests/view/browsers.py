@@ -25,6 +25,7 @@ except ImportError:
 # The characters that stand for keys, as WebDriver has them.
 CONTROL = "\ue009"
 LEFT, UP, RIGHT, DOWN = "\ue012", "\ue013", "\ue014", "\ue015"
+ESCAPE = "\ue00c"
 TAB, ENTER, END, HOME = "\ue004", "\ue007", "\ue010", "\ue011"
 
 
@@ -142,6 +143,10 @@ class Chromium(Browser):
     def scheme(self, name):
         feature = {"name": "prefers-color-scheme", "value": name}
         self.devtools("Emulation.setEmulatedMedia", features=[feature])
+
+    def paper(self, is_on):
+        """Shows the page as on paper, or on the screen again."""
+        self.devtools("Emulation.setEmulatedMedia", media="print" if is_on else "")
 
     def complaints(self):
         """Lines in the console since the last call."""
@@ -263,6 +268,11 @@ class Firefox(Browser):
     def scheme(self, name):
         self.with_rights("Services.prefs.setIntPref(...arguments)",
                          "layout.css.prefers-color-scheme.content-override", {"dark": 0, "light": 1}[name])
+
+    def paper(self, is_on):
+        self.with_rights("""
+            const { browsingContext } = window.gBrowser.selectedBrowser;
+            browsingContext.mediumOverride = arguments[0] ? 'print' : '';""", is_on)
 
     def complaints(self):
         """Errors and warnings of pages in the console since the last call."""

@@ -59,7 +59,7 @@ MARKED = """
         .join('').toWellFormed();
     return { generated: text('generated'), source: text('source'),
              status: document.getElementById('status').textContent,
-             shown: document.getElementById('sources').selectedOptions[0]?.textContent };"""
+             shown: document.getElementById('sources').title };"""
 
 SAYS = re.compile(r"(\d+):(\d+)(?: to \d+:\d+)? comes from (\d+):(\d+) of (.*?)( \(ignored\))?"
                   r"(?:, name (\".*\"))?"

@@ -221,6 +221,14 @@ def long_refusal(browser, folder):
 # ---- a page of several scripts
 
 
+BUNDLES = "return [...document.getElementById('bundles').options].map(one => one.textContent)"
+
+
+def wait_for_sizes(browser):
+    browser.wait("""
+        return [...document.getElementById('bundles').options].every(one => one.textContent.endsWith(' bytes'))""")
+
+
 def several(browser, folder):
     """A folder of a build is one page with a list of its scripts; a script is followed to its map."""
     build = folder / "build"
@@ -234,8 +242,8 @@ def several(browser, folder):
             {"version": 3, "sources": [source], "sourcesContent": [f"{source}!"], "mappings": "AAAA"}))
     url = make_page(folder, "build", "--base", "http://h/m", "build")
     browser.open(url)
-    equal(browser.run("return [...document.getElementById('bundles').options].map(one => one.textContent)"),
-          ["a.js", "b.js"])
+    wait_for_sizes(browser)
+    equal(browser.run(BUNDLES), ["a.js, 36 bytes", "b.js, 4 bytes"])
     equal(browser.run("return document.getElementById('name').textContent"), "a.js")
     browser.open(f"{url}#2/generated=1:2")
     browser.wait("return document.getElementById('name').textContent === 'b.js'")
@@ -250,16 +258,42 @@ def several(browser, folder):
     equal(follow(browser, "#generated=1:1"), "1:1 to 1:4 comes from 1:1 of http://h/m/src/a.ts")
 
 
+def scripts_of_one_name(browser, folder):
+    """Scripts of one name are told apart by their maps, and each has an address of its own."""
+    build = folder / "chunks"
+    for place in "a", "b":
+        (build / place).mkdir(parents=True, exist_ok=True)
+        (build / place / "main.js").write_text(f"{place}()")
+        (build / place / "main.js.map").write_text(json.dumps(
+            {"version": 3, "sources": [f"{place}.ts"], "mappings": "AAAA"}))
+    (build / "c.js").write_text("c()")
+    (build / "c.js.map").write_text('{"version":3,"sources":["c.ts"],"mappings":"AAAA"}')
+    url = make_page(folder, "chunks", "--base", "http://h/m", "chunks")
+    for number, name in enumerate(("a", "b", "c"), 1):
+        browser.open("about:blank")
+        browser.open(f"{url}#{number}/bytes")
+        browser.wait("return document.getElementById('tree').checkVisibility()")
+        equal(browser.run("return document.querySelector('tbody td').textContent"), f"{name}.ts")
+        wait_for_sizes(browser)
+        equal(browser.run(BUNDLES), ["main.js (a/main.js.map), 3 bytes", "main.js (b/main.js.map), 3 bytes",
+                                     "c.js, 3 bytes"])
+
+
 def many_sources(browser, folder):
     """Each source is listed, also where there are more than a call takes arguments."""
     sources = [f"{number}.js" for number in range(150000)]
     (folder / "many.js").write_text("f()")
     (folder / "many.js.map").write_text(json.dumps({"version": 3, "sources": sources, "mappings": "AAAA"}))
     browser.open(make_page(folder, "many.js.map", "--base", "http://h/m", "many.js.map"))
-    equal(browser.run("""
-        const { options } = document.getElementById('sources');
-        return [options.length, options[options.length - 1].textContent];"""),
-          [len(sources), f"http://h/m/{sources[-1]}"])
+    browser.run("document.getElementById('sources').click()")
+    equal(browser.run("return document.querySelector('#picker output').textContent"),
+          "150,000 sources in http://h/m/")
+    last = """
+        const box = document.querySelector('#picker .options');
+        box.scrollTop = box.scrollHeight;
+        const lines = [...document.querySelectorAll('#source-list [role=option]')];
+        return lines.at(-1)?.querySelector('bdi').textContent;"""
+    browser.wait(f"return (() => {{{last}}})() === '{sources[-1]}'")
 
 
 # ---- what isn't there

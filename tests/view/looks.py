@@ -1,146 +1,10 @@
-"""Tests of what is seen: bytes by source, contrasts, sizes of the window, and a large map."""
+"""Tests of what is seen: contrasts and colours, sizes of the window, paper, and a large map."""
 
 import json
 import time
 
 import pages
 from common import TABLE, equal, follow, make_page
-
-
-# ---- bytes
-
-LEAVES = """
-    return [...document.querySelectorAll('#tree > :not(.folder)')].map(area =>
-        [area.title, Number(area.dataset.bytes), area.offsetWidth * area.offsetHeight]);"""
-def bytes_add_up(browser, made, url):
-    browser.open(f"{url}#bytes")
-    size = len(made["text"].encode())
-    rows = browser.run(TABLE)
-    sizes = {row[0].replace(" (ignored)", ""): int(row[1].replace(",", "")) for row in rows}
-    names = [f"http://h/m/{name}" if name else "source 7, which has no URL" for name in pages.SOURCES]
-    wanted = dict(zip(names + ["mappings without a source", "no mapping"], made["sizes"]))
-    equal(sizes, wanted)
-    equal(sum(sizes.values()), size)
-    equal(sum(int(row[3].replace(",", "")) for row in rows), made["count"])
-    leaves = browser.run(LEAVES)
-    equal(sum(leaf[1] for leaf in leaves), size)
-    equal({title.rsplit(": ", 1)[0]: number for title, number, _ in leaves}, wanted)
-    # areas are in proportion, but for borders
-    ratios = [area / number for _, number, area in leaves]
-    assert max(ratios) < 1.6 * min(ratios), ratios
-
-
-def folders_nest(browser, url):
-    """Each area of a folder has the bytes of those within it."""
-    browser.open("about:blank")
-    browser.open(f"{url}#bytes")
-    areas = browser.run("""
-        return [...document.querySelectorAll('#tree > *')].map(area => {
-            const { left, top, right, bottom } = area.getBoundingClientRect();
-            return [area.className, Number(area.dataset.bytes), left, top, right, bottom];
-        });""")
-    folders = [area for area in areas if area[0] == "folder"]
-    assert len(folders) >= 5, folders
-    for _, number, left, top, right, bottom in folders:
-        inner = [area for area in areas if area[0] != "folder" and area[2] >= left - 1 and area[3] >= top - 1
-                 and area[4] <= right + 1 and area[5] <= bottom + 1]
-        equal(sum(area[1] for area in inner), number)
-
-
-SORTED = "return [...document.querySelectorAll('thead th')].map(one => one.getAttribute('aria-sort'))"
-
-
-def table_sorts(browser, url):
-    browser.open("about:blank")
-    browser.open(f"{url}#bytes")
-    for head, column in (1, 1), (0, 0), (3, 3):
-        for direction in "ascending", "descending":
-            browser.run("document.querySelectorAll('thead button')[arguments[0]].click()", head)
-            got = browser.run(SORTED)
-            # names begin with the ascending order, numbers with the descending one
-            if got[head] != direction:
-                browser.run("document.querySelectorAll('thead button')[arguments[0]].click()", head)
-                got = browser.run(SORTED)
-            equal([one for one in got if one], [direction])
-            equal(got[head], direction)
-            cells = [row[column].replace(" (ignored)", "") for row in browser.run(TABLE)]
-            values = [int(cell.replace(",", "")) for cell in cells] if column else cells
-            equal(values, sorted(values, reverse=direction == "descending"))
-
-
-def labels_end(browser, url):
-    """A label of an area that has no room ends with an ellipsis."""
-    browser.size(700, 400)
-    browser.open("about:blank")
-    browser.open(f"{url}#bytes")
-    cut = browser.run("""
-        const texts = [];
-        for (const area of document.querySelectorAll('#tree > *')) {
-            const walk = document.createTreeWalker(area, NodeFilter.SHOW_TEXT), node = walk.nextNode();
-            if (!node) continue;
-            const range = document.createRange(), box = node.parentElement;
-            range.selectNodeContents(node);
-            const { textOverflow, whiteSpace, overflow } = getComputedStyle(box);
-            const { width, height } = range.getBoundingClientRect();
-            const isCut = width > area.clientWidth || height > 20;
-            if (isCut) texts.push([node.data, textOverflow, whiteSpace, overflow]);
-        }
-        return texts;""")
-    browser.size(1280, 800)
-    assert cut, "each label has room"
-    for text, *style in cut:
-        equal((text, *style), (text, "ellipsis", "nowrap", "hidden"))
-
-
-def zooms(browser, url):
-    """A folder of the areas is shown alone after a click or by keys, and the names above it go back."""
-    browser.open("about:blank")
-    browser.open(f"{url}#bytes")
-    leaves = """
-        return [...document.querySelectorAll('#tree > button')].map(one => one.title.replace(/: .*/, ''));"""
-    parts = ["http://h/m/src/parts/list.js", "http://h/m/src/parts/item.js"]
-    whole = browser.run(leaves)
-    browser.run("""
-        [...document.querySelectorAll('#tree > .folder')].find(one => one.title.startsWith('/parts')).click();""")
-    equal(browser.run(leaves), parts)
-    equal(browser.run("return [...document.querySelectorAll('#path button')].map(one => one.textContent)"),
-          ["all", "http://h", "/m", "/src", "/parts"])
-    browser.run("document.querySelectorAll('#path button')[0].click()")
-    equal(browser.run(leaves), whole)
-    browser.run("document.querySelector('#tree > button').focus()")
-    browser.press("+", "+", "+", "+")
-    equal(browser.run(leaves), parts)
-    browser.press("-")
-    equal(sorted(browser.run(leaves)),
-          sorted([*parts, "http://h/m/src/app.js", "http://h/m/src/util/dates.js"]))
-
-
-def long_paths(browser, folder):
-    """What a source in very many folders takes grows with the length of its name, and the areas keep room."""
-    steps = 20000
-    name = "a/" * (steps - 1) + "b.js"
-    (folder / "deep.js").write_text("f();g()")
-    (folder / "deep.js.map").write_text(json.dumps(
-        {"version": 3, "sources": [name, "c.js"], "names": [], "mappings": "AAAA,ICAA"}))
-    browser.open(make_page(folder, "deep.js.map", "--base", "http://h/m", "deep.js.map"))
-    taken = browser.run("""
-        const start = performance.now();
-        document.getElementById('bytes-tab').click();
-        [...document.querySelectorAll('#tree > .folder')].find(one => one.title.startsWith('/a')).click();
-        document.getElementById('tree').getBoundingClientRect();
-        return performance.now() - start;""")
-    assert taken < 4000, f"{taken:.0f} ms"
-    shown = """
-        const all = id => [...document.querySelectorAll(`#${id} > button`)];
-        return [all('tree').map(one => one.title), all('path').map(one => one.textContent)];"""
-    leaf, path = f"http://h/m/{name}: 4 bytes, 57.1%", ["all", "http://h", "/m", *["/a"] * (steps - 1)]
-    assert browser.run(shown) == [[leaf], path]
-    room, height = browser.run("return ['tree', 'areas'].map(id => document.getElementById(id).offsetHeight)")
-    assert room > height * 0.7, (room, height)
-    browser.press("-")
-    assert browser.run(shown) == [[leaf], path[:-1]]
-    browser.press("+")
-    assert browser.run(shown) == [[leaf], path]
 
 
 # ---- what it looks like
@@ -171,7 +35,7 @@ CONTRASTS = """
 
 
 def contrasts(browser, url, refused):
-    """Each text has a contrast of at least 4.5 to 1 to what is behind it, in both schemes."""
+    """Each text has a contrast of at least 4.5 to 1 to what is behind it, in both schemes, in each colour."""
     grounds = set()
     for scheme in "light", "dark":
         browser.scheme(scheme)
@@ -179,15 +43,100 @@ def contrasts(browser, url, refused):
         for page in f"{url}#generated=4:5", f"{url}#bytes", refused:
             browser.open("about:blank")
             browser.open(page)
+            browser.run("""
+                const [span] = document.querySelectorAll('#generated .range');
+                for (let number = 0; span && number < 16; number++) {
+                    const copy = span.parentElement.appendChild(span.cloneNode(true));
+                    copy.className = `range c${number}`;
+                }
+                document.getElementById('sources').click();""")
             found, ground = browser.run(CONTRASTS)
             grounds.add(ground)
             kinds |= set(found)
             low = {name: round(value, 2) for name, value in found.items() if value < 4.5}
             assert not low, f"{scheme}: {low}"
-        for kind in "none", "ignored", *(f"c{number}" for number in range(6)):
+        for kind in "none", "ignored", *(f"c{number}" for number in range(16)):
             assert f"SPAN range {kind}" in kinds, kind
     browser.scheme("light")
     equal(len(grounds), 2)
+
+
+def colours_are_calm(browser, url):
+    """No colour of a source is much stronger than the page, in the dark as in the light."""
+    for scheme in "light", "dark":
+        browser.scheme(scheme)
+        browser.open("about:blank")
+        browser.open(url)
+        colours = browser.run("""
+            return Array.from({ length: 16 }, (_, number) => {
+                const one = document.body.appendChild(document.createElement('i'));
+                one.className = `c${number}`;
+                return getComputedStyle(one).backgroundColor.match(/[0-9]+/g).map(Number);
+            });""")
+        assert len({tuple(colour) for colour in colours}) == 16, colours
+        strong = [colour for colour in colours if max(colour) - min(colour) > 75]
+        assert not strong, (scheme, strong)
+    browser.scheme("light")
+
+
+KINDS = """
+    return [...new Set([...document.querySelectorAll(arguments[0])]
+        .flatMap(one => [...one.classList]).filter(name => /^(c[0-9]+|ignored)$/.test(name)))];"""
+
+
+def colours_mean_sources(browser, folder):
+    """A source has one colour, in both texts, as an area and in lists, and the next one another."""
+    made, count = pages.Maker(), 20
+    for number in range(count):
+        for row in range(3):
+            made.add("f(1);", number, row, 0)
+            made.add("g(2);", number, row, 5)
+    made.write(folder, "hues.js", sources=[f"{'a' if n < 15 else 'b'}/{n}.js" for n in range(count)],
+               sourcesContent=["let a = 1;\n" * 3] * count)
+    browser.open(make_page(folder, "hues.js.map", "--base", "http://h/m", "hues.js.map"))
+    # not broken, so that all of the script is seen
+    browser.press("b")
+    spans = browser.run("""
+        return [...document.querySelectorAll('#generated .range')].flatMap(one =>
+            Array(one.textContent.length).fill(one.className.replace(/range /, '')));""")
+    colours = [spans[30 * number:30 * number + 30] for number in range(count)]
+    for number, colour in enumerate(colours):
+        assert len(set(colour)) == 1, (number, colour)
+        assert not number or colour[0] != colours[number - 1][0], number
+    for number in 0, 7, 16:
+        browser.run("location.hash = arguments[0]", f"#source={number + 1}")
+        browser.wait("return document.getElementById('sources').textContent.endsWith(arguments[0])",
+                     f"/{number}.js")
+        equal(browser.run(KINDS, "#source .range"), [colours[number][0]])
+        equal(browser.run(KINDS, "#sources .swatch"), [colours[number][0]])
+    browser.run("document.getElementById('bytes-tab').click()")
+    for number in 0, 7, 16:
+        equal(browser.run(KINDS, f"#tree > [title*='/{number}.js: ']"), [colours[number][0]])
+    # of a folder with much in it each source has a hue of its own; folders with less have one
+    hues = [{int(colour[0][1:]) % 8 for colour in colours[begin:end]} for begin, end in ((0, 15), (15, 20))]
+    assert len(hues[0]) >= 6, hues
+
+
+def prints_table(browser, folder, url):
+    """On paper there is a table of all sources, and no text, area or control."""
+    browser.open("about:blank")
+    browser.open(url)
+    browser.run("dispatchEvent(new Event('beforeprint'))")
+    browser.paper(True)
+    try:
+        rows, hidden, cut = browser.run("""
+            const seen = kind => [...document.querySelectorAll(kind)].filter(one => one.checkVisibility());
+            const { height } = document.querySelector('table').getBoundingClientRect();
+            const cut = ['body', '#main', '#sizes'].filter(kind =>
+                document.querySelector(kind).getBoundingClientRect().height < height);
+            return [seen('tbody tr').map(row => row.firstChild.textContent),
+                    seen('.pane, #tree, [role=tab], input').map(one => one.id), cut];""")
+    finally:
+        browser.paper(False)
+    equal((hidden, cut), ([], []))
+    assert "src/parts/list.js" in rows and len(rows) == 10, rows
+    browser.run("dispatchEvent(new Event('afterprint'))")
+    equal([row[0] for row in browser.run(TABLE) if row[0].startswith("src/")], ["src/"])
 
 
 def fits(browser, url):
@@ -236,15 +185,18 @@ def fields_have_room(browser, url):
 
 
 def errors_have_room(browser, folder):
-    """On a phone the error of a refused map has all its words."""
+    """On a phone the error of a refused map has all its words, and is on the screen with its place."""
     browser.size(390, 700)
-    (folder / "cut.map").write_text('{"version":3,"sections":[{"offset":{"line":0,"column":0},"map":{'
-                                    '"version":3,"sources":["a.js"],"mappings":"AAAA,BAAA"}}]}')
+    (folder / "cut.map").write_text('{"version":3,"sources":["a.js"],"names":["' + '","'.join(
+        f"name{number}" for number in range(2000)) + '"],"mappings":"AAAA,CCAA"}')
     browser.open(make_page(folder, "cut.map", "cut.map", status=1))
-    whole, seen, lines = browser.run("""
+    whole, seen, lines, tops = browser.run("""
         const error = document.getElementById('error');
-        return [error.scrollWidth, error.clientWidth, error.textContent];""")
+        return [error.scrollWidth, error.clientWidth, error.textContent,
+                [error, document.querySelector('mark')].map(one => one.getBoundingClientRect())
+                    .map(({ top, bottom }) => top >= 0 && bottom <= innerHeight)];""")
     assert whole <= seen, f"{lines} is cut: {whole} of {seen}"
+    equal(tops, [True, True])
     browser.size(1280, 800)
 
 

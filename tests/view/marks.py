@@ -93,15 +93,13 @@ def keyboard_bytes(browser, url):
     tab_to(browser, "texts-tab")
     browser.press(RIGHT)
     equal(browser.run(FOCUSED), "bytes-tab")
-    browser.press(TAB)
-    first = browser.run(FOCUSED)
+    tab_to(browser, "a.js: 7 bytes, 53.8%")
     browser.press(RIGHT)
-    second = browser.run(FOCUSED)
-    equal((first, second), (f"{A_JS}: 7 bytes, 53.8%", f"{B_JS}: 2 bytes, 15.4%"))
-    tab_to(browser, B_JS)
+    equal(browser.run(FOCUSED), "b.js: 2 bytes, 15.4%")
+    tab_to(browser, "b.js")
     browser.press(ENTER)
     equal(browser.run(FOCUSED), "source")
-    equal(browser.run(MARKED)["shown"], B_JS)
+    equal((browser.run(MARKED)["shown"], status(browser)), (B_JS, FOURTH))
 
 
 def links(browser, url):
@@ -232,33 +230,25 @@ def finds(browser, url):
     equal((browser.run(count, "source"), browser.run(FOUND, "source")), ("0", ""))
 
 
+def ends_at_marks(browser, where):
+    """The line between the marks lies in the gap between the panes, and ends at the height of both."""
+    ends, heights, gap, panes = browser.run("""
+        const boxes = ids => ids.map(one => document.querySelector(one).getBoundingClientRect());
+        const { left, top } = document.getElementById('tie').getBoundingClientRect();
+        const path = document.querySelector('#tie path'), { x, width } = path.getBBox();
+        const ends = path.getAttribute('d').match(/[\\d.-]+/g).map(Number);
+        return [[ends[1] + top, ends.at(-1) + top],
+                boxes(['#generated .mark', '#source .mark']).map(box => (box.top + box.bottom) / 2),
+                [left + x, left + x + width],
+                boxes(['#generated', '#source']).map((box, pane) => pane ? box.left : box.right)];""")
+    equal((where, [round(end) for end in ends]), (where, [round(height) for height in heights]))
+    assert gap[0] >= panes[0] - 0.5 and gap[1] <= panes[1] + 0.5 and gap[1] > gap[0], (where, gap, panes)
+
+
 def ties(browser, url):
-    """A line goes from the mark in the script to that in the source, and none where one of them isn't seen."""
+    """A line goes from the row marked in the script to that in the source, and none where one isn't seen."""
     browser.open(f"{url}#generated=1:5")
-    path = "return document.querySelector('#tie path').getAttribute('d')"
-    browser.wait(path)
-    line, marks = browser.run("""
-        const boxes = ['generated', 'source'].map(id => document.querySelector(`#${id} .mark`))
-            .map(mark => mark.getBoundingClientRect());
-        return [document.querySelector('#tie path').getAttribute('d').match(/[\\d.]+/g).map(Number),
-                boxes.map(box => [box.left, box.right, (box.top + box.bottom) / 2])];""")
-    equal([round(one) for one in line[:2]], [round(one) for one in marks[0][1:]])
-    equal([round(one) for one in line[-2:]], [round(marks[1][0]), round(marks[1][2])])
+    browser.wait("return document.querySelector('#tie path').getAttribute('d')")
+    ends_at_marks(browser, "1:5")
     follow(browser, "#generated=2:1")
     browser.wait("return document.querySelector('#tie path').getAttribute('d') === ''")
-
-
-def filters(browser, url):
-    """The list of sources is cut to those whose names hold a text; a mark in another one lists all again."""
-    browser.open(url)
-    listed = "return [...document.getElementById('sources').options].map(one => one.textContent)"
-    equal(browser.run(listed), [A_JS, B_JS])
-    browser.run("document.getElementById('filter').focus()")
-    browser.press(*"B.js")
-    equal(browser.run(listed), [B_JS])
-    browser.press(ENTER)
-    equal(browser.run(MARKED)["shown"], B_JS)
-    browser.press("?")
-    equal(browser.run(listed), ["no source has this name"])
-    equal(follow(browser, "#generated=1:1"), FIRST)
-    equal((browser.run(listed), browser.run(MARKED)["shown"]), ([A_JS, B_JS], A_JS))

@@ -8,8 +8,11 @@ import tempfile
 import time
 import traceback
 
+import areas
 import browsers
 import contents
+import controls
+import lists
 import looks
 import marks
 import pages
@@ -49,12 +52,18 @@ def try_browser(browser, folder, made, url, simple_url, count):
     test(f"{browser.name}: {count} clicks", marks.clicks, browser, folder, made, url, count)
     test(f"{browser.name}: clicks in lines that aren't wrapped", marks.clicks, browser, folder, made, url,
          count // 5, False)
-    test(f"{browser.name}: bytes", looks.bytes_add_up, browser, made, url)
-    test(f"{browser.name}: folders", looks.folders_nest, browser, url)
-    test(f"{browser.name}: labels of areas", looks.labels_end, browser, url)
-    test(f"{browser.name}: a folder of the areas", looks.zooms, browser, url)
-    test(f"{browser.name}: a source in very many folders", looks.long_paths, browser, folder)
-    test(f"{browser.name}: the table", looks.table_sorts, browser, url)
+    test(f"{browser.name}: bytes", areas.bytes_add_up, browser, made, url)
+    test(f"{browser.name}: folders", areas.folders_nest, browser, url)
+    test(f"{browser.name}: sizes of folders", areas.folders_have_sizes, browser, made, url)
+    test(f"{browser.name}: labels of areas", areas.labels_end, browser, url)
+    test(f"{browser.name}: a folder of the areas", areas.zooms, browser, url)
+    test(f"{browser.name}: keys in the areas", areas.walks_areas, browser, url)
+    test(f"{browser.name}: a click on an area", areas.goes_to_first, browser, made, url)
+    test(f"{browser.name}: a source in very many folders", areas.long_paths, browser, folder)
+    test(f"{browser.name}: sizes after gzip", areas.estimates_gzip, browser, made, url)
+    test(f"{browser.name}: all scripts", areas.all_scripts, browser, folder)
+    test(f"{browser.name}: areas of many sources", areas.many_areas, browser, folder, print)
+    test(f"{browser.name}: the table", areas.table_sorts, browser, url)
     test(f"{browser.name}: keyboard", marks.keyboard, browser, simple_url)
     test(f"{browser.name}: keyboard and bytes", marks.keyboard_bytes, browser, simple_url)
     test(f"{browser.name}: keys at once", marks.keys_at_once, browser, simple_url)
@@ -62,19 +71,33 @@ def try_browser(browser, folder, made, url, simple_url, count):
     test(f"{browser.name}: lines that fit", marks.scrolls_nowhere, browser, simple_url)
     test(f"{browser.name}: places", marks.search, browser, simple_url)
     test(f"{browser.name}: search", marks.finds, browser, simple_url)
-    test(f"{browser.name}: the list of sources", marks.filters, browser, simple_url)
+    test(f"{browser.name}: the list of sources", lists.filters, browser, simple_url)
+    test(f"{browser.name}: the ends of paths", lists.shows_ends, browser, folder)
+    test(f"{browser.name}: the search of everything", lists.finds_all, browser, simple_url)
+    test(f"{browser.name}: the mappings of a name", lists.walks_names, browser, folder)
+    test(f"{browser.name}: escapes", lists.reads_escapes, browser, folder)
     test(f"{browser.name}: the line between the panes", marks.ties, browser, simple_url)
     test(f"{browser.name}: wrapping by a button and a key", wraps.has_button, browser, url)
     test(f"{browser.name}: all of a line that isn't wrapped", wraps.shows_all, browser, made, url)
     test(f"{browser.name}: marks in lines that aren't wrapped", wraps.keeps_marks, browser, made, url)
     test(f"{browser.name}: search in lines that aren't wrapped", wraps.goes_to_found, browser, made, url)
     test(f"{browser.name}: the longest lines, not wrapped", wraps.cuts_longest, browser, folder)
+    test(f"{browser.name}: a minified line", wraps.breaks_lines, browser, folder)
+    test(f"{browser.name}: the place of a mark", wraps.stands_in_middle, browser, folder)
     test(f"{browser.name}: links", marks.links, browser, simple_url)
     test(f"{browser.name}: clicks in a source, and the pointer", marks.source_clicks, browser, simple_url)
     test(f"{browser.name}: contrasts", looks.contrasts, browser, url, refused)
+    test(f"{browser.name}: calm colours", looks.colours_are_calm, browser, url)
+    test(f"{browser.name}: colours of sources", looks.colours_mean_sources, browser, folder)
+    test(f"{browser.name}: paper", looks.prints_table, browser, folder, url)
+    test(f"{browser.name}: names of controls", controls.have_names, browser, url, refused)
+    test(f"{browser.name}: the focus", controls.focus_is_seen, browser, simple_url)
+    test(f"{browser.name}: lines of a list", controls.options_are_told, browser, simple_url)
     test(f"{browser.name}: refused maps", contents.refusals, browser, folder)
+    test(f"{browser.name}: an error on a phone", looks.errors_have_room, browser, folder)
     test(f"{browser.name}: a long refused map", contents.long_refusal, browser, folder)
     test(f"{browser.name}: several scripts", contents.several, browser, folder)
+    test(f"{browser.name}: scripts of one name", contents.scripts_of_one_name, browser, folder)
     test(f"{browser.name}: many sources", contents.many_sources, browser, folder)
     test(f"{browser.name}: a source without contents", contents.no_content, browser, folder)
     test(f"{browser.name}: the console", console_is_quiet, browser, url)
@@ -111,7 +134,6 @@ def main():
                 if kind is browsers.Chromium:
                     test("Chromium: sizes of the window", looks.fits, browser, url)
                     test("Chromium: fields on a phone", looks.fields_have_room, browser, url)
-                    test("Chromium: an error on a phone", looks.errors_have_room, browser, folder)
                     test("Chromium: without scripts", contents.without_scripts, browser, url)
                     if "--quick" in sys.argv:
                         left_out.append("a large map (--quick)")

@@ -5,7 +5,7 @@ import re
 import pages
 from browsers import ENTER
 from common import equal, follow, lines_of, make_page, status
-from marks import tab_to
+from marks import ends_at_marks, tab_to
 
 FRAMES = "return new Promise(done => requestAnimationFrame(() => requestAnimationFrame(() => done(true))))"
 PRESSED = "return document.getElementById('wrap').getAttribute('aria-pressed')"
@@ -33,6 +33,7 @@ def has_button(browser, url):
     """A button and a key turn it on and off, and the button says which."""
     browser.open("about:blank")
     browser.open(url)
+    browser.press("b")
     rows = len(browser.run(LABELS))
     wrapped = browser.run(LABELS)
     assert any(label.startswith(":") for label in wrapped), wrapped
@@ -43,6 +44,7 @@ def has_button(browser, url):
     equal((browser.run(PRESSED), browser.run(LABELS)), ("true", wrapped))
     browser.open("about:blank")
     browser.open(url)
+    browser.run("document.getElementById('break').click()")
     tab_to(browser, "wrap")
     equal(browser.run("return document.activeElement.textContent"), "Wrap lines")
     for pressed in "false", "true":
@@ -61,7 +63,7 @@ def shows_all(browser, made, url):
     """A line that isn't wrapped is seen whole, part by part, when its pane is scrolled sideways."""
     browser.open("about:blank")
     browser.open(url)
-    browser.press("w")
+    browser.press("b", "w")
     line = max(lines_of(made["text"]), key=len)
     number = lines_of(made["text"]).index(line)
     assert pages.units(line) > 1000
@@ -83,14 +85,7 @@ def shows_all(browser, made, url):
 
 
 def keeps_marks(browser, made, url):
-    """What is marked is seen, and the line between the marks ends at both, wherever lines become rows."""
-    ends = """
-        const line = document.querySelector('#tie path').getAttribute('d').match(/[\\d.]+/g)?.map(Number);
-        const [from, to] = ['generated', 'source'].map(id => document.querySelector(`#${id} .mark`))
-            .map(mark => mark.getBoundingClientRect());
-        const near = (a, b) => Math.abs(a - b) < 1;
-        return [near(line[0], from.right), near(line[1], (from.top + from.bottom) / 2),
-                near(line.at(-2), to.left), near(line.at(-1), (to.top + to.bottom) / 2)];"""
+    """What is marked is seen, and the line between the marks ends beside both, wherever lines become rows."""
     # places of the two long lines, by the last mapping at each, whose source has contents
     owners = {(line, column): (*numbers, -1)[0] for line, column, *numbers in made["made"] if line in (3, 20)}
     mapped = [place for place, owner in owners.items() if 0 <= owner < len(pages.SOURCES) - 1]
@@ -103,7 +98,7 @@ def keeps_marks(browser, made, url):
         for mode, pressed in ("wrapped", "true"), ("not wrapped", "false"), ("wrapped again", "true"):
             equal(browser.run(PRESSED), pressed)
             sees_marks(browser, (place, mode))
-            equal((place, mode, browser.run(ends)), (place, mode, [True] * 4))
+            ends_at_marks(browser, (place, mode))
             browser.press("w")
         equal(status(browser), said)
         # and after a link, where lines aren't wrapped
@@ -116,7 +111,7 @@ def goes_to_found(browser, made, url):
     """A search has the same places in lines that aren't wrapped, and each is scrolled to."""
     browser.open("about:blank")
     browser.open(url)
-    browser.press("w")
+    browser.press("b", "w")
     equal(browser.run(PRESSED), "false")
     browser.press("/")
     browser.press(*"render p")
@@ -156,7 +151,7 @@ def cuts_longest(browser, folder):
     url = make_page(folder, "long.js.map", "--base", "http://h/m", "long.js.map")
     browser.open("about:blank")
     browser.open(url)
-    browser.press("w")
+    browser.press("b", "w")
     equal(browser.run(LABELS), ["1", ":100001", ":200001", "2"])
     for column in 234561, 99991, 100001, 250000, 1:
         begin = (column - 1) // 10 * 10
@@ -175,3 +170,64 @@ def cuts_longest(browser, folder):
         const number = mark.parentElement.firstChild.getBoundingClientRect();
         pane.scrollLeft += mark.getBoundingClientRect().right - number.right + 2;""")
     browser.wait(f"{path} === ''")
+
+
+def breaks_lines(browser, folder):
+    """A minified line is broken after `;`, `{` and `}` for the eye alone: positions stay the same."""
+    made = pages.Maker()
+    pieces = ["function f(a){", "return a+1}", "for(;;){", "g()}", "if(x)", "y();", "z=[{},{}];"] * 12
+    for number, piece in enumerate(pieces):
+        made.add(piece, 0, number, 0)
+    made.end_line()
+    made.add("short(){;}", 0, 0, 1)
+    made.write(folder, "broken.js", sources=["a.js"], sourcesContent=["line\n" * 100])
+    url = make_page(folder, "broken.js.map", "--base", "http://h/m", "broken.js.map")
+    browser.open("about:blank")
+    browser.open(url)
+    rows = """
+        return [...document.querySelectorAll('#generated .row')].map(row =>
+            [Number(row.dataset.line), Number(row.dataset.column),
+             [...row.children].slice(1).map(one => one.textContent).join('')]);"""
+    broken = browser.run(rows)
+    equal([text for _, _, text in broken[:7]],
+          ["function f(a){", "return a+1}", "for(;;){", "g()}", "if(x)y();", "z=[{},", "{}];"])
+    line = "".join(pieces)
+    for number, column, text in broken:
+        equal(text, ([line, "short(){;}"][number])[column:column + len(text)])
+    # what is marked by a click, a link and keys is what it is in whole lines
+    place = line.index("g()}", 200)
+    said = follow(browser, f"#generated=1:{place + 1}")
+    assert said.startswith(f"1:{place + 1} to 1:{place + 5} comes from "), said
+    equal(browser.run("return document.querySelector('#generated .mark').textContent"), "g()}")
+    browser.press("b")
+    equal(browser.run("return document.getElementById('break').getAttribute('aria-pressed')"), "false")
+    assert len(browser.run(rows)) < len(broken)
+    equal((status(browser), browser.run(SEEN)[0]), (said, True))
+    browser.press("b")
+    equal((browser.run(rows)[0], browser.run(SEEN)[0]), (broken[0], True))
+
+
+def stands_in_middle(browser, folder):
+    """What a link marks stands in the middle of both panes, with lines around it."""
+    made = pages.Maker()
+    for number in range(2000):
+        made.add("call(", 0, number, 0)
+        made.add("1);", 0, number, 5)
+    made.write(folder, "middle.js", sources=["a.js"], sourcesContent=["call(one);\n" * 2000])
+    url = make_page(folder, "middle.js.map", "--base", "http://h/m", "middle.js.map")
+    middle = """
+        return ['generated', 'source'].map(id => {
+            const pane = document.getElementById(id).getBoundingClientRect();
+            const { top, bottom } = document.querySelector(`#${id} .mark`).getBoundingClientRect();
+            return ((top + bottom) / 2 - pane.top) / pane.height;
+        });"""
+    for number in 900, 1500, 700:
+        browser.open("about:blank")
+        browser.open(f"{url}#generated=1:{8 * number + 1}")
+        places = browser.run(middle)
+        assert all(0.4 < place < 0.6 for place in places), (number, places)
+    # and a minified line has a row for each statement around it
+    texts = browser.run("""
+        const row = document.querySelector('#generated .mark').parentElement;
+        return [row.previousSibling, row, row.nextSibling].map(one => one.lastChild.textContent);""")
+    equal(texts, ["1);"] * 3)

@@ -1,8 +1,10 @@
 'use strict';
-// Runs a program of the package for this platform: what each command beside this file does.
+// Runs a program: what each command beside this file does. It is that of the package for this platform or,
+// where there is none, the same as WebAssembly.
 const { spawn } = require('node:child_process');
 const os = require('node:os');
 const { failure, fileOf } = require('../platform.js');
+const { canRun, runHere } = require('../programs/run.js');
 
 // The status with which a shell says that it can't find a command.
 const NOT_FOUND = 127;
@@ -31,13 +33,25 @@ function start(file, name) {
   });
 }
 
+// The program of the package for this platform, or null where that isn't here.
+function nativeProgram() {
+  try {
+    return fileOf('bin/smap');
+  } catch (error) {
+    if (canRun()) return null;
+    throw error;
+  }
+}
+
 /**
  * Runs a program with the arguments and the streams of this process. All are one program, which looks at the
  * name that it is called by.
  */
 function run(name) {
   try {
-    start(fileOf('bin/smap'), name);
+    const file = nativeProgram();
+    if (file) start(file, name);
+    else runHere(name);
   } catch (error) {
     fail(name, error);
   }

@@ -144,6 +144,40 @@ static napi_value do_are_alike(napi_env env, napi_callback_info info)
     return out;
 }
 
+/* Takes over three texts, or none of them. */
+static bool three_texts_of(napi_env env, const napi_value *w, text_in *one, text_in *other, text_in *third)
+{
+    if (!two_texts_of(env, w, one, other)) return false;
+    if (text_of(env, w[2], third)) return true;
+    text_done(one);
+    text_done(other);
+    return false;
+}
+
+/* scriptMap(folder, name, text, tried): what the script names, as a number, and the next map, or null */
+static napi_value do_script_map(napi_env env, napi_callback_info info)
+{
+    text_in folder, name, text;
+    uint32_t tried, kind = 0;
+    smap_bytes bytes = {0};
+    napi_value out, number, map;
+    ARGUMENTS(4);
+    CALL(napi_get_value_uint32(env, w[3], &tried));
+    if (!three_texts_of(env, w, &folder, &name, &text)) return NULL;
+    uint32_t code = smap_script_map(folder.at, folder.len, name.at, name.len, text.at, text.len, tried, &bytes,
+                                    &kind);
+    text_done(&folder);
+    text_done(&name);
+    text_done(&text);
+    map = given(env, code, &bytes);
+    if (!map) return NULL;
+    CALL(napi_create_uint32(env, kind, &number));
+    CALL(napi_create_array_with_length(env, 2, &out));
+    CALL(napi_set_element(env, out, 0, number));
+    CALL(napi_set_element(env, out, 1, map));
+    return out;
+}
+
 const call link_calls[] = {
     {"inlineMap", do_inline_map},
     {"fileUrl", do_file_url},
@@ -153,6 +187,7 @@ const call link_calls[] = {
     {"scriptUrl", do_script_url},
     {"scriptName", do_script_name},
     {"scriptLink", do_script_link},
+    {"scriptMap", do_script_map},
     {"areAlike", do_are_alike},
     {NULL, NULL},
 };

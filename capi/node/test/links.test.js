@@ -482,6 +482,22 @@ test('what is neither a text nor a name is a TypeError', () => {
   }
 });
 
+test('the maps that a script may have, which only the package asks for', () => {
+  const [UNSAID, NOTHING, INLINE, FILE, LEAVES] = [0, 1, 2, 3, 7];
+  const next = (text, tried) => {
+    const [kind, map] = native.scriptMap('/', 'out/a.js', text, tried);
+    return [kind, map && map.toString()];
+  };
+  const rows = [['', UNSAID], ['f()', NOTHING], ['//# sourceMappingURL=data:,%7B%7D', INLINE, '{}'],
+    ['//# sourceMappingURL=../b%20c.map?v=1#x', FILE, 'b c.map'], ['//# sourceMappingURL=http://h/a.map', LEAVES]];
+  for (const [text, kind, ...named] of rows) {
+    for (const [tried, map] of [...named, 'out/a.js.map', null, null].entries()) {
+      assert.deepEqual(next(text, tried), [kind, map], text);
+      assert.deepEqual(next(Buffer.from(text), tried), [kind, map], text);
+    }
+  }
+});
+
 test('a text is a string, or its bytes', () => {
   const bytes = Uint8Array.from(Buffer.from('data:;base64,e30'));
   const shared = new Uint8Array(new SharedArrayBuffer(bytes.length));

@@ -33,7 +33,7 @@ function run(words, environment = {}) {
   return { out: stdout, err: stderr, status };
 }
 
-const RUNS_ON = 'smap runs on Linux on x86-64, and';
+const RUNS_ON = 'smap runs on Linux on x86-64 and aarch64, and';
 const MISSING = {
   mac: `${RUNS_ON} this is darwin-arm64`,
   linux: `${RUNS_ON} its package smap-linux-x64, which has what is compiled, is not installed`,

@@ -1,6 +1,6 @@
 'use strict';
-// The commands of the package run a program of the package for the platform, for which scripts stand here. They
-// pass on words, streams, statuses and signals.
+// The commands of the package run a program of the package for the platform, for which scripts stand here.
+// They pass on words, streams, statuses and signals. Where there is none, they run the module.
 const assert = require('node:assert');
 const fs = require('node:fs');
 const os = require('node:os');
@@ -16,7 +16,10 @@ const programs = path.join(folder, 'node_modules', `smap-${process.platform}-${p
 const command = name => path.join(folder, 'node_modules', 'smap', 'bin', `${name}.js`);
 
 fs.cpSync(path.join(PACKAGE, 'bin'), path.dirname(command('smap')), { recursive: true });
-fs.cpSync(path.join(PACKAGE, 'platform.js'), path.join(folder, 'node_modules/smap/platform.js'));
+fs.cpSync(path.join(PACKAGE, 'programs'), path.join(folder, 'node_modules/smap/programs'), { recursive: true });
+for (const name of ['platform.js', 'wide.js']) {
+  fs.cpSync(path.join(PACKAGE, name), path.join(folder, 'node_modules/smap', name));
+}
 fs.mkdirSync(programs, { recursive: true });
 
 function putProgram(name, script, mode = 0o755) {
@@ -24,8 +27,8 @@ function putProgram(name, script, mode = 0o755) {
   fs.chmodSync(path.join(programs, name), mode);
 }
 
-const run = (name, words, input = '') =>
-  spawnSync(process.execPath, [command(name), ...words], { encoding: 'utf8', input });
+const run = (name, words, input = '', flags = []) =>
+  spawnSync(process.execPath, [...flags, command(name), ...words], { encoding: 'utf8', input });
 
 test('words, streams and the status are those of the program', () => {
   putProgram('smap', 'printf "<%s>" "$@"; cat; echo said >&2; exit 3');
@@ -68,4 +71,44 @@ test('a program that cannot be run', () => {
   const { stderr, status } = run('smap-trace', []);
   assert.match(stderr, /^smap-trace: smap runs on Linux .*, and its program can't be run here: .*EACCES/);
   assert.equal(status, 127);
+});
+
+// ---- where there is no package for the platform
+
+// In place of the module: (memory 1), and main, which gives how long its third word is.
+const MODULE = Uint8Array.of(0, 0x61, 0x73, 0x6d, 1, 0, 0, 0, 1, 14, 2, 0x60, 3, 0x7e, 0x7e, 0x7e, 1, 0x7e, 0x60, 2, 0x7f,
+  0x7e, 1, 0x7f, 2, 18, 1, 3, 0x65, 0x6e, 0x76, 10, 0x72, 0x61, 0x74, 0x74, 0x6c, 0x65, 0x5f, 0x61, 0x72, 0x67, 0, 0, 3,
+  2, 1, 1, 5, 3, 1, 0, 1, 7, 17, 2, 6, 0x6d, 0x65, 0x6d, 0x6f, 0x72, 0x79, 2, 0, 4, 0x6d, 0x61, 0x69, 0x6e, 0, 1, 10, 14,
+  1, 12, 0, 0x42, 2, 0x42, 0, 0x42, 0xe4, 0, 0x10, 0, 0xa7, 0x0b);
+
+function withoutPackage(check) {
+  const module = path.join(folder, 'node_modules/smap/programs/smap-programs.wasm');
+  const away = `${path.dirname(programs)}.away`;
+  fs.renameSync(path.dirname(programs), away);
+  fs.writeFileSync(module, MODULE);
+  try {
+    check();
+  } finally {
+    fs.rmSync(module);
+    fs.renameSync(away, path.dirname(programs));
+  }
+}
+
+test('where there is no program of the platform, the module is run, with all bytes of its words', () => {
+  withoutPackage(() => {
+    assert.equal(run('smap', ['a', 'four']).status, 4);
+    if (process.platform !== 'linux') return;
+    const words = `"${process.execPath}" "${command('smap-view')}" a "$(printf '\\377b\\377')"`;
+    assert.equal(spawnSync('sh', ['-c', words]).status, 3);
+  });
+});
+
+test('nor where WebAssembly has no memory of 64 bits', () => {
+  const narrow = path.join(folder, 'narrow.js');
+  fs.writeFileSync(narrow, 'WebAssembly.validate = () => false;');
+  withoutPackage(() => {
+    const { stderr, status } = run('smap-trace', ['a'], '', ['--require', narrow]);
+    assert.match(stderr, /^smap-trace: smap runs on Linux on x86-64 and aarch64, and its package .* is not installed\n$/);
+    assert.equal(status, 127);
+  });
 });

@@ -305,7 +305,8 @@ const CALLS_OF = {
     consumer.destroy();
   },
   native(given) {
-    const { start, ...calls } = native;
+    // a number that is taken at random may be one that another thread waits for
+    const { start, take, ...calls } = native;
     const word = () => (given.next(3) ? given.value() : given.one([native.scripts, aMap])());
     const promise = calls[given.one(Object.keys(calls))](...Array.from({ length: given.next(6) }, word));
     if (promise?.then) given.later.push(promise.catch(allowedOfNative));

@@ -53,6 +53,10 @@ const LINK_CALLS = {
   scriptUrl: () => assert.equal(scriptUrl(SCRIPT + '/', long), `${SCRIPT}/${long}`),
   scriptName: () => assert.equal(scriptName(SCRIPT + '/', `${SCRIPT}/${long}`), long),
   normalForm: () => assert.equal(normalForm(`${SCRIPT}?${long}`), SCRIPT),
+  scriptMap: () => {
+    const next = native.scriptMap('/', long, `//# sourceMappingURL=${long}.b`, 1);
+    assert.deepEqual(next, [3, Buffer.from(`${long}.map`)]);
+  },
   areAlike: () => assert.equal(areAlike(`${SCRIPT}?${long}`, `${SCRIPT}#${long}`), true),
 };
 

@@ -5,7 +5,8 @@ const fs = require('node:fs');
 const path = require('node:path');
 const { test } = require('node:test');
 const { SmapError } = require('../errors.js');
-const { WIDE, file, instance, load } = require('../wasm.js');
+const { file, instance, load } = require('../wasm.js');
+const { WIDE } = require('../wide.js');
 
 const BASE = 'http://h/m/out.js.map';
 const text = '{"version":3,"sources":["a.js"],"names":["n"],"mappings":"AAUE,IAEAA"}';
@@ -37,8 +38,14 @@ test("Node's flag is taken back", is, () => {
   assert.equal(WebAssembly.validate(WIDE), before);
 });
 
-test('the heap keeps what is in its blocks', isTest, () => {
-  for (const seed of [7919, 104729, 1299709]) assert.equal(instance(tests).js_test_heap(seed, 30000), 0);
+test('the heap keeps what is in its blocks, and wastes little', isTest, () => {
+  for (const seed of [7919, 104729, 1299709]) {
+    const x = instance(tests);
+    const before = x.memory.buffer.byteLength;
+    assert.equal(x.js_test_heap(seed, 30000), 0);
+    const grown = x.memory.buffer.byteLength - before;
+    assert.ok(grown < 1.5 * x.js_test_most(), `${grown} bytes for ${x.js_test_most()}`);
+  }
 });
 
 test('a stack that is overrun traps, and writes over nothing', isTest, () => {

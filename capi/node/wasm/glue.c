@@ -345,6 +345,17 @@ uint32_t js_script_link(double text, double len, uint32_t css)
     return code;
 }
 
+/* What the script names is `yes`. */
+uint32_t js_script_map(double folder, double len, double name, double name_len, double text, double text_len,
+                       uint32_t tried)
+{
+    uint32_t kind = 0;
+    uint32_t code = give(smap_script_map(AT(char, folder), (size_t)len, AT(char, name), (size_t)name_len,
+                                         AT(char, text), (size_t)text_len, tried, &given, &kind));
+    out.yes = kind;
+    return code;
+}
+
 /* The answer is `yes`. */
 uint32_t js_are_alike(double one, double len, double other, double other_len)
 {

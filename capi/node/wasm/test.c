@@ -17,7 +17,7 @@ void rattle_dealloc(void *at);
 enum { SLOTS = 4096 };
 
 static u8 *at[SLOTS], mark[SLOTS];
-static u64 size[SLOTS], state;
+static u64 size[SLOTS], state, held, most;
 
 static u64 next(void)
 {
@@ -44,6 +44,8 @@ static _Bool is_filled(const u8 *block, u64 n, u8 byte)
 
 static void fill(u64 i, u8 *block, u64 n)
 {
+    held += n - size[i];
+    if (held > most) most = held;
     at[i] = block;
     size[i] = n;
     mark[i] = (u8)next();
@@ -55,7 +57,9 @@ static _Bool step(u64 i)
     if (at[i] && !is_filled(at[i], size[i], mark[i])) return 0;
     if (at[i] && next() % 3) {
         rattle_dealloc(at[i]);
+        held -= size[i];
         at[i] = 0;
+        size[i] = 0;
         return 1;
     }
     u64 n = some(), kept = n < size[i] ? n : size[i];
@@ -76,8 +80,15 @@ double js_test_heap(double seed, double steps)
     for (u64 i = 0; i < SLOTS; i++) {
         if (at[i]) rattle_dealloc(at[i]);
         at[i] = 0;
+        size[i] = held = 0;
     }
     return 0;
+}
+
+/* How many bytes were in use at most. */
+double js_test_most(void)
+{
+    return (double)most;
 }
 
 /* ---- the stack */

@@ -58,6 +58,10 @@ DROPPED = 2
 HIDE_IGNORED = 1
 ANYWHERE = 2
 IGNORE_QUERY = 4
+FILE_OTHER = 0
+FILE_SCRIPT = 1
+FILE_STYLE_SHEET = 2
+FILE_MAP = 3
 NAMED_UNSAID = 0
 NAMED_NOTHING = 1
 NAMED_INLINE = 2
@@ -179,8 +183,13 @@ FUNCTIONS: List[Tuple[Any, ...]] = [
     ("smap_file_path", c_uint32, c_char_p, c_size_t, POINTER(Bytes)),
     ("smap_script_url", c_uint32, c_char_p, c_size_t, c_char_p, c_size_t, POINTER(Bytes)),
     ("smap_script_name", c_uint32, c_char_p, c_size_t, c_char_p, c_size_t, POINTER(Bytes)),
+    ("smap_file_kind", c_uint32, c_char_p, c_size_t),
     (
         "smap_named_map", c_uint32, c_char_p, c_size_t, c_char_p, c_size_t, c_char_p, c_size_t,
+        POINTER(Bytes), POINTER(c_uint32),
+    ),
+    (
+        "smap_script_map", c_uint32, c_char_p, c_size_t, c_char_p, c_size_t, c_char_p, c_size_t, c_size_t,
         POINTER(Bytes), POINTER(c_uint32),
     ),
     ("smap_normal_form", c_uint32, c_char_p, c_size_t, c_bool, POINTER(Bytes)),

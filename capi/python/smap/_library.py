@@ -134,7 +134,7 @@ def library_file() -> str:
 HAVE_ANOTHER = "Set SMAP_LIBRARY to the file of libsmap.so.0, or to nothing."
 HAVE_ONE = (
     "Install the wheel of smap or Debian's libsmap0, or name the file of libsmap.so.0 in SMAP_LIBRARY. "
-    "It is built for Linux on x86-64."
+    "It is built for Linux on x86-64 and aarch64."
 )
 HAVE_THE_SAME = "It is of another release than the module: install both of the same."
 

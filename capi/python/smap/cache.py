@@ -10,9 +10,10 @@ from typing import Callable, ClassVar, Dict, Iterable, Optional, Tuple
 from ._declarations import REFUSED
 from ._library import Error
 from .files import too_large
-from .finders import MOST_SHOWN, Finder, Found, base_by_default
+from .finders import Finder, Found, base_by_default
 from .maps import Map
 from .noted import Noted
+from .scripts import MOST_SHOWN
 
 __all__ = ["Bounds", "Cache", "Kept", "beside"]
 

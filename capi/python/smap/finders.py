@@ -7,28 +7,15 @@ import os
 import re
 from bisect import bisect_right
 from collections.abc import Mapping as AnyMapping
-from contextlib import contextmanager
-from dataclasses import dataclass
 from typing import Callable, Dict, Iterable, Iterator, List, NamedTuple, Optional, Tuple, Union
 
-from ._declarations import NAMED_FILE, NAMED_INLINE, NAMED_LEAVES, NAMED_NO_NAME, NAMED_NOTHING
-from ._declarations import NAMED_UNSAID, NOT_UTF8, REFUSED
+from ._declarations import FILE_MAP, NAMED_INLINE, NAMED_NOTHING, NAMED_UNSAID, REFUSED
 from ._library import Error
 from .files import MOST_BYTES, from_end, read_file, too_large
-from .links import as_bytes, data_url, file_path, file_url, named_map, normal_form, resolve, script_link
-from .links import script_name, script_url
+from .links import as_bytes, file_kind, file_url, normal_form, resolve, script_url
+from .scripts import SOME_FOLDER, Folder, OutsideFolderError, Script, may_name_map, of_named
 
 __all__ = ["Finder", "Folders", "Found", "OutsideFolderError", "RepeatedError", "base_by_default"]
-
-# The names of scripts end in one of these. Those of style sheets have other comments.
-IS_STYLE_SHEET = {".js": False, ".mjs": False, ".cjs": False, ".css": True}
-
-# A folder that stands for that of a script when the URL of its map is resolved: what leaves the one leads out
-# of the other.
-SOME_FOLDER = b"/the folder of the script/"
-
-# How many bytes of a URL an error shows.
-MOST_SHOWN = 200
 
 # What is said of a folder without the URL of its scripts.
 NO_PLACES = 'folders are given with the URLs of their scripts, as {"https://shop.example/": "dist/"}'
@@ -60,22 +47,6 @@ class RepeatedError(Error):
         return type(self), (self.files,)
 
 
-class OutsideFolderError(Error):
-    """A script that names what is no file of its folder as its map.
-
-    `file` is the script, and `url` what it names, or the beginning of that.
-    """
-
-    __module__ = "smap"
-
-    def __init__(self, file: str, url: str) -> None:
-        super().__init__(REFUSED, f"{file} names a map that is no file of its folder: {url}")
-        self.file, self.url = file, url
-
-    def __reduce__(self) -> Tuple[type, Tuple[str, str]]:
-        return type(self), (self.file, self.url)
-
-
 def _own_url(script: str) -> str:
     """The URL of a script, which may be named by a path."""
     return file_url(script) or script
@@ -86,122 +57,13 @@ def base_by_default(script: str) -> str:
     return _own_url(script) + ".map"
 
 
-@dataclass(frozen=True)
-class Folder:
-    """A folder of maps and scripts, and the beginning of the scripts' URLs, or of their paths."""
-
-    key: str
-    place: str
-    # what the names of scripts in it have in common before their names below it, if there is that
-    form: Optional[bytes]
-
-    def name_of(self, script: str) -> Optional[str]:
-        """The name of the script below the folder, if it is one of those."""
-        if not script.startswith(self.key):
-            return None
-        name = script_name(as_bytes(self.key), as_bytes(script))
-        return None if name is None else os.fsdecode(name)
-
-    def name_alike(self, form: bytes) -> Optional[bytes]:
-        """The same of any script whose name has this normal form."""
-        if self.form is None or not form.startswith(self.form):
-            return None
-        return script_name(self.form, form)
-
-    def maps(self, name: str) -> Iterator[str]:
-        """The file of the map beside the script, if there is one."""
-        return self._files(name + ".map")
-
-    def scripts(self, name: str) -> Iterator[str]:
-        """The file of the script, if there is one."""
-        return self._files(name) if _ending(name) in IS_STYLE_SHEET else iter(())
-
-    def _files(self, name: str) -> Iterator[str]:
-        file = os.path.join(self.place, name)
-        if not os.path.isfile(file):
-            return
-        # a link to a folder leads elsewhere
-        parent = os.path.dirname(os.path.join(os.path.realpath(self.place), name))
-        if os.path.realpath(parent) == parent:
-            yield file
-
-
-def _ending(name: str) -> str:
-    return os.path.splitext(name)[1]
-
-
-@dataclass(frozen=True)
-class Link:
-    """What the script of this name in a folder names as its map: one of NAMED_.., the map or the name of its
-    file, and unless it is the map the URL, as it stands in the script.
-    """
-
-    place: str
-    name: str
-    kind: int
-    found: bytes
-    url: bytes
-
-    @property
-    def script(self) -> str:
-        """The file of the script."""
-        return os.path.join(self.place, self.name)
-
-    def file(self) -> Optional[str]:
-        """The file of the map, where all links are followed; None if there is none. Raises Error."""
-        if self.kind != NAMED_FILE:
-            raise self._fault()
-        file = os.path.join(self.place, os.fsdecode(self.found))
-        if not os.path.exists(file):
-            return None
-        file = os.path.realpath(file)
-        if not file.startswith(os.path.join(os.path.realpath(self.place), "")):
-            raise self._outside()
-        return file
-
-    def _fault(self) -> Error:
-        """Why it names no file: what the library says of the URL, or that that leads elsewhere."""
-        if self.kind != NAMED_NO_NAME:
-            try:
-                data_url(self.url)
-                file_path(resolve(script_url(SOME_FOLDER, os.fsencode(self.name)), self.url))
-            except Error as fault:
-                if self.kind != NAMED_LEAVES or fault.code == NOT_UTF8:
-                    return fault
-        return self._outside()
-
-    def _outside(self) -> OutsideFolderError:
-        shown = self.url[:MOST_SHOWN].decode("utf-8", "replace")
-        return OutsideFolderError(self.script, shown + "..." * (len(self.url) > MOST_SHOWN))
-
-
-def _link_in(place: str, name: str, lines: bytes) -> Optional[Link]:
-    """What the last lines of a script in a folder name; None where those before them would say."""
-    kind, found = named_map(SOME_FOLDER, os.fsencode(name), lines)
-    if kind == NAMED_UNSAID:
-        return None
-    url = None if kind == NAMED_INLINE else script_link(lines, IS_STYLE_SHEET[_ending(name)])
-    return Link(place, name, kind, found or b"", url or b"")
-
-
-@contextmanager
-def _named_by(file: str) -> Iterator[None]:
-    """Where the library has a fault, says what it is a fault of."""
-    try:
-        yield
-    except OutsideFolderError:
-        raise
-    except Error as fault:
-        raise Error(fault.code, f"the map that {file} names: {fault}") from None
-
-
 class Folders:
     """Finds maps in files and folders, as smap-trace does: Folders({"https://h/m/": "dist/"}).
 
     For a key that ends in `/` or `\\`, the map of the script whose URL is the key with NAME behind it,
     percent-encoded unless the key is a path, is the one that the file NAME (.js, .mjs, .cjs, .css) in the
-    folder or below it names in its last comment: one in the folder or below it, by a relative URL, or in a
-    data: URL. Where that can't be had, it is the file NAME.map. Links to files are followed, links to folders
+    folder or below it names in its last comment: one in the folder or below it, or in a data: URL. Where that
+    can't be had, it is the file NAME.map next to it. Links to files are followed, links to folders
     aren't, and what a script names is read nowhere else than in the folder (`OutsideFolderError`, where there
     is no NAME.map). Any other key is a script
     itself, and its value the file of its map, or the script's, if that names a map in its own folder.
@@ -220,7 +82,7 @@ class Folders:
         self._map_bytes = map_bytes
         self._files: Dict[str, str] = {}
         self._folders: List[Folder] = []
-        self._forms: Optional[Dict[bytes, str]] = None
+        self._forms: Optional[Tuple[Dict[bytes, str], Dict[bytes, Optional[str]]]] = None
         self._listed: Optional[List[Tuple[bytes, Beginnings]]] = None
         for key, place in places.items():
             self._add(key, os.fspath(place))
@@ -240,84 +102,127 @@ class Folders:
         if script in self._files:
             return self._in_file(script, self._files[script])
         named = [(folder, folder.name_of(script)) for folder in self._folders]
-        below = [(folder, name) for folder, name in named if name is not None]
-        files = [file for folder, name in below for file in folder.maps(name)]
-        if len(files) > 1:
-            raise RepeatedError(files)
-        try:
-            return self._in_scripts(script, below, may_fail=bool(files)) or self._beside(script, files)
-        except FileNotFoundError:
-            return None  # it was removed meanwhile
+        there: List[Tuple[str, Found]] = []
+        fault: Optional[Exception] = None
+        for folder, name in named:
+            try:
+                there += [] if name is None else self._in_folder(script, folder, name)
+            except (Error, OSError) as error:
+                fault = fault or error
+        if len(there) > 1:
+            raise RepeatedError([file for file, _ in there])
+        if fault is not None and not there:
+            raise fault
+        return there[0][1] if there else None
 
-    def _beside(self, script: str, files: List[str]) -> Optional[Found]:
-        """The map next to a script."""
-        return self._read(files[0], base_by_default(script)) if files else None
+    def _in_folder(self, script: str, folder: Folder, name: str) -> Iterator[Tuple[str, Found]]:
+        """The map of the script with this name in a folder, if it has one, and the file that says so: of the
+        maps that it may have the first that can be had.
+        """
+        it, fault = self._script_there(folder, name)
+        is_named = it.names_map
+        for found in it.maps():
+            try:
+                had = self._named(script, it, found) if is_named else self._beside(script, it, found)
+            except FileNotFoundError:
+                had = None  # it was removed meanwhile
+            except (Error, OSError) as error:
+                had, fault = None, fault or error
+            if had is not None:
+                yield had
+                return
+            is_named = False
+        if fault is not None:
+            raise fault
+
+    def _script_there(self, folder: Folder, name: str) -> Tuple[Script, Optional[Exception]]:
+        """A script of a folder, and why it names no map. One that isn't there, or can't be read, says nothing."""
+        file = folder.script(name)
+        fault: Optional[OSError] = None
+        if file is not None:
+            try:
+                it = self._read_script(folder, name, file)
+                return it, it.fault()
+            except FileNotFoundError:
+                pass  # it was removed meanwhile
+            except OSError as error:
+                fault = error
+        return Script.of(folder, name, b""), fault
+
+    def _read_script(self, folder: Folder, name: str, file: str) -> Script:
+        """A script of a folder, with so many lines of its end as say what it names."""
+
+        def ask(lines: bytes) -> Optional[Script]:
+            script = Script.of(folder, name, lines)
+            return None if script.kind == NAMED_UNSAID else script
+
+        return from_end(file, ask, self._map_bytes) or Script.of(folder, name, b"")
+
+    def _named(self, script: str, it: Script, found: bytes) -> Optional[Tuple[str, Found]]:
+        """The map that a script names, if it is there, and the script's file."""
+        if it.kind == NAMED_INLINE:
+            if len(found) > self._map_bytes:
+                raise too_large(self._map_bytes, it.file)
+            return it.file, Found(found, _own_url(script))
+        file = it.named_file(found)
+        if file is None:
+            return None
+        try:
+            return it.file, self._read(file, resolve(as_bytes(script), it.url).decode())
+        except Error as fault:
+            raise of_named(it.file, fault) from None
+
+    def _beside(self, script: str, it: Script, found: bytes) -> Optional[Tuple[str, Found]]:
+        """The map next to a script, if it is there, and its file."""
+        file = it.folder.file(os.fsdecode(found))
+        return None if file is None else (file, self._read(file, base_by_default(script)))
 
     def _read(self, file: str, base: str) -> Found:
         return Found(read_file(file, self._map_bytes), base)
 
-    def _links(self, place: str, name: str) -> Iterator[Link]:
-        """What a script in a folder names, if it names a map."""
-        file = os.path.join(place, name)
-        link = from_end(file, lambda lines: _link_in(place, name, lines), self._map_bytes)
-        if link is not None and link.kind != NAMED_NOTHING:
-            yield link
-
-    def _in_scripts(self, script: str, below: List[Tuple[Folder, str]], may_fail: bool) -> Optional[Found]:
-        """The map that a script names, whose file is in one of these folders under this name. Where that can't
-        be had, it is None if there is another.
-        """
-        there = [(folder.place, name) for folder, name in below for _ in folder.scripts(name)]
-        links = [link for place, name in there for link in self._links(place, name)]
-        try:
-            if len(links) > 1:
-                raise RepeatedError([link.script for link in links])
-            return self._linked(script, links[0]) if links else None
-        except (Error, OSError):
-            if may_fail:
-                return None
-            raise
-
     def _in_file(self, script: str, file: str) -> Found:
         """The map of a script whose file is given, or the script's, which may name its map."""
         place, name = os.path.split(file)
-        links = list(self._links(place, name)) if _ending(name) in IS_STYLE_SHEET else []
-        if not links:
+        if not may_name_map(name):
             return self._read(file, base_by_default(script))
-        found = self._linked(script, links[0])
+        it = self._read_script(Folder(_own_folder(script), place, None), name, file)
+        if it.kind in (NAMED_UNSAID, NAMED_NOTHING):
+            return self._read(file, base_by_default(script))
+        fault = it.fault()
+        if fault is not None:
+            raise fault
+        found = self._named(script, it, it.first or b"")
         if found is None:
             raise FileNotFoundError(errno.ENOENT, "the map that it names is missing", file)
-        return found
-
-    def _linked(self, script: str, link: Link) -> Optional[Found]:
-        """The map that a script names, if it is there."""
-        if link.kind != NAMED_INLINE:
-            with _named_by(link.script):
-                file = link.file()
-                if file is None:
-                    return None
-                return self._read(file, resolve(as_bytes(script), link.url).decode())
-        if len(link.found) > self._map_bytes:
-            raise too_large(self._map_bytes, link.script)
-        return Found(link.found, _own_url(script))
+        return found[1]
 
     def meant_by(self, name: str) -> Optional[str]:
-        """The first script with a map to whose name this one is alike (`smap.alike`), which has none itself.
-
-        With another query it is another script.
+        """The script with a map that this name means, which has none itself: the first whose name is alike
+        (`smap.alike`) and has the same query, or else no query; or else the only one that is alike.
         """
         text = as_bytes(name)
-        return self._files_by_form().get(normal_form(text, True)) or next(self._alike_below(text), None)
+        bare = _without_query(text)
+        by_form, by_bare_form = self._files_by_form()
+        for spelled in (text, bare):
+            script = by_form.get(normal_form(spelled, True)) or next(self._alike_below(spelled), None)
+            if script is not None:
+                return script
+        return by_bare_form.get(normal_form(bare, True))
 
-    def _files_by_form(self) -> Dict[bytes, str]:
-        """The first script of each normal form, with the query, that has a file of its own."""
+    def _files_by_form(self) -> Tuple[Dict[bytes, str], Dict[bytes, Optional[str]]]:
+        """Of the scripts that have a file of their own the first of each normal form, with the query, and the
+        only one of each form that names have without it.
+        """
         if self._forms is None:
-            forms: Dict[bytes, str] = {}
+            by_form: Dict[bytes, str] = {}
+            by_bare_form: Dict[bytes, Optional[str]] = {}
             for script in self._files:
                 form = _form(script, True)
                 if form is not None:
-                    forms.setdefault(form, script)
-            self._forms = forms
+                    by_form.setdefault(form, script)
+                    bare = normal_form(_without_query(as_bytes(script)), True)
+                    by_bare_form[bare] = None if bare in by_bare_form else script
+            self._forms = by_form, by_bare_form
         return self._forms
 
     def _alike_below(self, text: bytes) -> Iterator[str]:
@@ -328,7 +233,7 @@ class Folders:
             if found is None:
                 continue
             name, script = os.fsdecode(found), script_url(as_bytes(folder.key), found)
-            if normal_form(script, True) == whole and (any(folder.maps(name)) or any(folder.scripts(name))):
+            if normal_form(script, True) == whole and folder.has(name):
                 yield script.decode("utf-8", "surrogateescape")
 
     def named_in(self, text: bytes) -> Iterator[str]:
@@ -368,6 +273,19 @@ def _form(name: str, with_query: bool = False) -> Optional[bytes]:
         return None
 
 
+def _without_query(name: bytes) -> bytes:
+    """A name without its query and its fragment."""
+    return re.split(rb"[?#]", name, maxsplit=1)[0]
+
+
+def _own_folder(script: str) -> str:
+    """The URL of the folder of a script."""
+    try:
+        return resolve(script, ".")
+    except Error:
+        return SOME_FOLDER
+
+
 def _by_folder(scripts: Iterable[str]) -> Dict[bytes, List[bytes]]:
     """The names of scripts by the folders of their URLs, for each of which a text is searched once."""
     names: Dict[bytes, List[bytes]] = {}
@@ -392,9 +310,9 @@ def _names(folder: Folder) -> Iterator[bytes]:
 
 def _script_of(file: str) -> str:
     """The name of the script whose map may be in a file; empty for other files."""
-    if file.endswith(".map"):
+    if file_kind(os.fsencode(file)) == FILE_MAP:
         return file[:-4]
-    return file if _ending(file) in IS_STYLE_SHEET else ""
+    return file if may_name_map(file) else ""
 
 
 def _fail(error: OSError) -> None:

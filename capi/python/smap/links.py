@@ -13,8 +13,8 @@ from typing import AnyStr, Callable, Iterable, Optional, Tuple, Union
 from ._declarations import NONE, NOT_UTF8, Bytes
 from ._library import Error, check, lib, taken, written
 
-__all__ = ["alike", "as_bytes", "data_url", "file_path", "file_url", "named_map", "normal_form", "resolve"]
-__all__ += ["script_link", "script_name", "script_url"]
+__all__ = ["alike", "as_bytes", "data_url", "file_kind", "file_path", "file_url", "normal_form", "resolve"]
+__all__ += ["script_link", "script_map", "script_name", "script_url"]
 
 
 def as_bytes(text: Union[str, bytes]) -> bytes:
@@ -117,15 +117,27 @@ def script_name(folder: AnyStr, url: AnyStr) -> Optional[AnyStr]:
     return None if found is None else _like(found, url)
 
 
-def named_map(folder: bytes, name: bytes, text: bytes) -> Tuple[int, Optional[bytes]]:
-    """What the script, or the style sheet, with this name below a folder names for its map.
+def script_map(folder: bytes, name: bytes, text: bytes, tried: int = 0) -> Tuple[int, Optional[bytes]]:
+    """The next of the maps that the script, or the style sheet, with this name below a folder may have, after
+    so many that can't be had: the one that it names, then the file next to it. The first that can be had is
+    its map.
 
-    The number says what, one of SMAP_NAMED_.. in smap.h; the bytes are the map, or the name of its file below
-    the folder. The folder's own name ends in a slash. The text is the script's, or its last lines.
+    The number says what it names, one of SMAP_NAMED_.. in smap.h; the bytes are the map, if that is
+    SMAP_NAMED_INLINE and none was tried, or else the name of its file below the folder; None where there are
+    no more. The folder's own name ends in a slash. The text is the script's, or its last lines.
     """
     kind = c_uint32()
-    found = _given(lambda *words: lib.smap_named_map(*words, byref(kind)), folder, name, text)
+
+    def call(*words: object) -> int:
+        return int(lib.smap_script_map(*words[:-1], tried, words[-1], byref(kind)))
+
+    found = _given(call, folder, name, text)
     return kind.value, found
+
+
+def file_kind(name: bytes) -> int:
+    """What a file is by the end of its name, one of SMAP_FILE_.. in smap.h."""
+    return int(lib.smap_file_kind(name, len(name)))
 
 
 def normal_form(name: AnyStr, with_query: bool = False) -> AnyStr:

@@ -81,8 +81,8 @@ class Store:
     `finder` is a dictionary for `Folders`, or a function that gets the URL of a script and returns its map
     (`Found`, or bytes), or None if there is none. It may be called by several threads at once, and may ask a
     store for other scripts: an Error tells it of one that waits for itself. A name without a map means the
-    first script with one to whose name it is alike (`smap.alike`), but for another query, where the finder
-    has a method `meant_by` that says which, as `Folders` has it.
+    script with one that a method `meant_by` of the finder says, as `Folders` has it: one to whose name it is
+    alike (`smap.alike`).
 
     At most `cache_bytes` of memory are taken by maps that are kept open (`Map.held`), or being opened: those
     that were used last. A call in progress may hold up to as much again, if another thread makes room

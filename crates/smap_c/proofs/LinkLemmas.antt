@@ -5,8 +5,9 @@ use Rattle.std.specs.Prelude.{Result}
 use Rattle.std.specs.declared.option.Option.TheVariants as o
 use Rattle.std.specs.declared.result.Result.TheVariants as r
 use Rattle.std.specs.Global.{Vec}
-use Rattle.smap_c.specs.Codes as codes
-use Rattle.smap_c.specs.Links.{Answer, Gives, IsAnswer, answer_of}
+use Rattle.smap_c_answers.specs.Codes as codes
+use Rattle.smap_c_answers.specs.Answers.{Answer, IsAnswer, answer_of}
+use Rattle.smap_c.specs.Links.{Gives}
 
 -- memory ran out, whatever the answer is
 without_memory : (said : Answer) (old new : Option (Vec ℕ)) (code : ℕ)

@@ -16,11 +16,11 @@ use Rattle.smap_mappings.specs.Text.{mappings_text}
 use Rattle.smap_record.specs.declared.fault.ReadError.{ReadError}
 use Rattle.smap_record.specs.Results.{Returns}
 use Rattle.smap_record.specs.Faults.{Checked, segment_fault}
-use Rattle.smap_c.specs.Strings.{copied}
+use Rattle.smap_c_answers.specs.Strings.{copied}
 use Rattle.smap_c.specs.declared.opened.Opened.{Opened}
 use Rattle.smap_c.specs.Faults.{ReportsFault}
 use Rattle.smap_c.specs.declared.faults.SmapFault.{SmapFault}
-use Rattle.smap_c.specs.Codes as codes
+use Rattle.smap_c_answers.specs.Codes as codes
 
 -- the handle has these bytes
 abbrev pub Holds : List ℕ → Option (Vec ℕ) → Type 0

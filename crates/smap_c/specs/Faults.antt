@@ -1,15 +1,13 @@
 -- How faults are reported to C.
-use Rattle.std.specs.Prelude.{◌≡◌, ◌≤◌, ◌⊎◌, ℕ, List, length, replicate, Option, Some, None, ◌<◌, ◌^◌, All}
+use Rattle.std.specs.Prelude.{◌≡◌, ◌≤◌, ◌⊎◌, ℕ, List, length, replicate, Option, Some, None}
 use Rattle.std.specs.Option.{is_some}
 use Rattle.smap_mappings.specs.declared.error.SegmentPlace.{SegmentPlace}
-use Rattle.smap_record.specs.declared.fault.Kind.{Kind}
 use Rattle.smap_record.specs.declared.fault.Fault.{Fault}
 use Rattle.smap_record.specs.Kinds.{code_and_number}
 use Rattle.smap_record.specs.Messages.{fault_message}
-use Rattle.smap_c.specs.Strings.{copied}
-use Rattle.smap_c.specs.Codes.{MEMORY, REFUSED}
+use Rattle.smap_c_answers.specs.Strings.{copied}
+use Rattle.smap_c_answers.specs.Codes.{MEMORY, REFUSED}
 use Rattle.smap_c.specs.declared.faults.SmapFault.{SmapFault}
-use Rattle.smap_record.specs.declared.fault.Kind.TheVariants as kind
 
 -- as much of the text as the field takes, and then zeros
 abbrev pub padded_text : List ℕ → List ℕ
@@ -53,25 +51,3 @@ ReportsFault fault before after code =
 -- A fault that is reported has all of its words: they are at most 260 bytes, and the field has 264.
 abbrev pub IsWhole : SmapFault → ℕ → Type 0
 IsWhole after code = code ≡ REFUSED → after.text_len ≤ 260
-
--- ---- for private contracts: which numbers a fault can have, those that fit its fields
-
--- the number that a kind carries
-abbrev pub KindFits : Kind → Type 0
-KindFits (kind.SourceUrl i) = i < 2 ^ 64
-KindFits (kind.UnstableUrl i) = i < 2 ^ 64
-KindFits (kind.Number which fault) = which < 2 ^ 64
-KindFits (kind.Count n) = n < 2 ^ 64
-KindFits k = Unit {0}
-
--- a line and a segment
-abbrev pub PlaceFits : Option SegmentPlace → Type 0
-PlaceFits None = Unit {0}
-PlaceFits (Some place) = (place.line < 2 ^ 32) × (place.segment < 2 ^ 32)
-
--- at most eight numbers of sections
-abbrev pub PathFits : List ℕ → Type 0
-PathFits path = (length path ≤ 8) × All (λ number. number < 2 ^ 64) path
-
-abbrev pub FaultFits : Fault → Type 0
-FaultFits fault = PathFits fault.section × PlaceFits fault.place × KindFits fault.kind

@@ -7,7 +7,7 @@ use Rattle.smap_trace.specs.Translation.{Script}
 use Rattle.smap_c.specs.declared.handles.Held.{Held}
 use Rattle.smap_c.specs.declared.handles.Held.TheVariants as held
 use Rattle.smap_c.specs.declared.opened.Opened.{Opened}
-use Rattle.smap_c.specs.Codes as codes
+use Rattle.smap_c_answers.specs.Codes as codes
 
 -- ---- what it is
 

@@ -1,5 +1,4 @@
 pub mod Bytes
-pub mod Codes
 pub mod Faults
 pub mod Handles
 pub mod Links
@@ -12,7 +11,6 @@ pub mod Order
 pub mod Owned
 pub mod Scripts
 pub mod Sources
-pub mod Strings
 pub mod Threads
 pub mod Traces
 pub mod Version

@@ -4,10 +4,10 @@ use Rattle.smap_mappings.specs.declared.token.Token.{Token}
 use Rattle.smap_mappings.specs.declared.token.Original.{Original}
 use Rattle.smap_record.specs.Record.{Entry, ReadMap, record_of}
 use Rattle.smap_record.specs.Written.{Spelling}
-use Rattle.smap_c.specs.Strings.{copied, TextReported, ClosedReported}
+use Rattle.smap_c_answers.specs.Strings.{copied, TextReported, ClosedReported}
 use Rattle.smap_c.specs.declared.lists.SmapListedMapping.{SmapListedMapping}
 use Rattle.smap_c.specs.declared.opened.Opened.{Opened}
-use Rattle.smap_c.specs.Codes as codes
+use Rattle.smap_c_answers.specs.Codes as codes
 
 -- a mapping without an original
 abbrev pub unmapped : ℕ → ℕ → SmapListedMapping

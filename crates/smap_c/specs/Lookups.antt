@@ -9,8 +9,8 @@ use Rattle.smap_record.specs.Views.{entry_of_view, mapping_of_view}
 use Rattle.smap_trace.specs.Lookup.{FallsTo, FallsToIndex}
 use Rattle.smap_c.specs.declared.lookups.SmapMapping.{SmapMapping}
 use Rattle.smap_c.specs.declared.opened.Opened.{Opened}
-use Rattle.smap_c.specs.Strings.{TextReported, ClosedReported}
-use Rattle.smap_c.specs.Codes as codes
+use Rattle.smap_c_answers.specs.Strings.{TextReported, ClosedReported}
+use Rattle.smap_c_answers.specs.Codes as codes
 
 -- a mapping's numbers
 abbrev pub reported_mapping_at : ℕ → ℕ → Option OriginalView → SmapMapping

@@ -17,8 +17,8 @@ use Rattle.smap_c.specs.declared.faults.SmapFault.{SmapFault}
 use Rattle.smap_c.specs.declared.opened.Opened.{Opened}
 use Rattle.smap_c.specs.declared.maps.OpenFault.{OpenFault}
 use Rattle.smap_c.specs.declared.maps.SmapCounts.{SmapCounts}
-use Rattle.smap_c.specs.Strings.{TextReported, ClosedReported}
-use Rattle.smap_c.specs.Codes as codes
+use Rattle.smap_c_answers.specs.Strings.{TextReported, ClosedReported}
+use Rattle.smap_c_answers.specs.Codes as codes
 use Rattle.smap_c.specs.declared.maps.OpenFault.TheVariants as faults
 
 -- ---- limits

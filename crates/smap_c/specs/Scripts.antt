@@ -10,7 +10,7 @@ use Rattle.smap_c.specs.Bytes.{Holds}
 use Rattle.smap_c.specs.Traces.{fates}
 use Rattle.smap_c.specs.declared.opened.Opened.{Opened}
 use Rattle.smap_c.specs.declared.scripts.SmapTraceCounts.{SmapTraceCounts}
-use Rattle.smap_c.specs.Codes as codes
+use Rattle.smap_c_answers.specs.Codes as codes
 
 -- a closed handle has none
 abbrev pub or_none : Option (List Script) → List Script

@@ -1,9 +1,9 @@
 -- What the calls that give what a source has come to.
 use Rattle.std.specs.Prelude.{◌≡◌, ℕ, List, slice_get, Option, Some, None, Bool}
 use Rattle.smap_record.specs.Record.{Entry, ReadMap, record_of}
-use Rattle.smap_c.specs.Strings.{TextReported, ClosedReported}
+use Rattle.smap_c_answers.specs.Strings.{TextReported, ClosedReported}
 use Rattle.smap_c.specs.declared.opened.Opened.{Opened}
-use Rattle.smap_c.specs.Codes as codes
+use Rattle.smap_c_answers.specs.Codes as codes
 
 -- of a source, or there is no such source
 abbrev pub EntryReported : (Entry → Option (List ℕ)) → Option Entry → List ℕ → List ℕ → ℕ → ℕ → Type 0

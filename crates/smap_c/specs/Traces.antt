@@ -1,10 +1,10 @@
 -- What the calls on the lines of a trace come to.
 use Rattle.std.specs.Prelude.{◌≡◌, ℕ, ◌==◌, Bool, List, [], ◌∷◌, ◌⊎◌, length, Option, Some, None, IsUtf8}
 use Rattle.std.specs.Int.RustNames.{bit_and}
-use Rattle.smap_c.specs.Strings.{copied}
+use Rattle.smap_c_answers.specs.Strings.{copied}
 use Rattle.smap_c.specs.declared.opened.Opened.{Opened}
 use Rattle.smap_c.specs.declared.traces.SmapFrameParts.{SmapFrameParts}
-use Rattle.smap_c.specs.Codes as codes
+use Rattle.smap_c_answers.specs.Codes as codes
 use Rattle.smap_frames.specs.Frame.{FrameParts}
 use Rattle.smap_frames.specs.Reading.{frame_of}
 use Rattle.smap_record.specs.Record.{ReadMap, record_of}

@@ -5,16 +5,15 @@ ghost use Rattle.smap_canon.specs.Canonical.{canonical_mappings_text};
 ghost use Rattle.smap_mappings.specs.Decoded.{ReturnsTokens, decoded};
 ghost use Rattle.smap_mappings.specs.Text.{IsEncodable};
 ghost use Rattle.smap_mappings.specs.Limits.{widest};
-ghost use Rattle.smap_c.specs.Strings.{copied};
+ghost use Rattle.smap_c_answers.specs.Strings.{copied};
 ghost use Rattle.smap_c.specs.Bytes.{Tidies, TidiesRelative, Flattens, SpellsMappings, Puts, IsCopied, IsAt};
 ghost use Rattle.smap_c.specs.Bytes.{respelling, Respells, ReturnsText, Writes};
 ghost use Rattle.smap_c.specs.Handles.{held_bytes, held_map};
 ghost use Rattle.smap_c.specs.Faults.{IsWhole};
 
-use crate::codes::{CLOSED, MEMORY, OK};
 use crate::faults::{SmapFault, report_fault};
 use crate::handles::{Held, SmapBytes, SmapMap, with_open};
-use crate::strings::copy_out;
+use smap_c_answers::{CLOSED, MEMORY, OK, copy_out};
 use smap_canon::{canonical, canonical_mappings, canonical_relative, flatten};
 use smap_mappings::{MappingsError, Memory, Token, WIDEST, decode, encode};
 use smap_record::{Fault, ReadError, SourceMap};

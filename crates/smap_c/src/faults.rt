@@ -1,15 +1,12 @@
 //! Faults, as C sees them.
-ghost use Rattle.std.specs.Prelude.{◌≡◌, ◌<◌, ◌≤◌, ◌^◌, All, length, string_bytes, IfOk};
+ghost use Rattle.std.specs.Prelude.{◌≡◌, length};
 ghost use Rattle.smap_record.specs.Kinds.{fault_name};
-ghost use Rattle.smap_record.specs.Messages.{fault_message};
-ghost use Rattle.smap_c.specs.Strings.{copied};
-ghost use Rattle.smap_c.specs.Faults.{FaultFits, KindFits, PlaceFits, padded_path, padded_text};
+ghost use Rattle.smap_c_answers.specs.Strings.{copied};
+ghost use Rattle.smap_c.specs.Faults.{padded_path, padded_text};
 ghost use Rattle.smap_c.specs.Faults.{reported_with, IsWhole, ReportsFault};
 
-use crate::codes::{MEMORY, REFUSED};
-use crate::strings::copy_out;
-use smap_mappings::{Memory, SegmentPlace};
-use smap_record::{Fault, Kind, Path, fault_name};
+use smap_c_answers::{MEMORY, REFUSED, copy_out, fault_text};
+use smap_record::{Fault, Path, fault_name};
 use std::alloc::Global;
 
 /// As many bytes as the words of any fault take, which are at most 260, and zeros after them.
@@ -29,51 +26,6 @@ pub struct SmapFault {
     pub section: [usize; 8],
     pub text_len: usize,
     pub text: [u8; ROOM],
-}
-
-fn numbers_fit(numbers: &[usize])
-    ensures { All (λ number. number < 2 ^ 64) numbers.now }
-{
-    for i in 0..numbers.len() {
-        let _number = numbers[i];
-    }
-}
-
-fn place_fits(place: Option<SegmentPlace>)
-    ensures { PlaceFits place }
-{
-    if let Some(SegmentPlace { line, segment }) = place {
-        let _numbers = (line, segment);
-    }
-}
-
-fn kind_fits(kind: Kind)
-    ensures { KindFits kind }
-{
-    match kind {
-        Kind::SourceUrl(_) | Kind::UnstableUrl(_) => {}
-        Kind::Number(_, _) | Kind::Count(_) => {}
-        _ => {}
-    }
-}
-
-/// The numbers of a fault fit their types, which bounds its words. This does nothing when it runs.
-fn fault_fits(fault: &Fault)
-    ensures { FaultFits fault.now }
-{
-    numbers_fit(fault.section.numbers());
-    place_fits(fault.place);
-    kind_fits(fault.kind);
-}
-
-/// The words of a fault.
-#[tactic(auto, using(crate::proofs::FaultLemmas::message_is_short))]
-fn fault_text(alloc: Global, fault: &Fault) -> Result<String, Memory>
-    ensures words { IfOk result (λ text. string_bytes text ≡ fault_message fault.now) }
-    ensures short { length (fault_message fault.now) ≤ 260 }
-{
-    fault_fits(fault);
-    format!(in alloc; "{fault}")
 }
 
 /// The words, followed by zeros.

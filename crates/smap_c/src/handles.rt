@@ -6,9 +6,9 @@ ghost use Rattle.smap_c.specs.Handles.{held_bytes, held_map, held_scripts, is_by
 ghost use Rattle.smap_c.specs.Handles.{IsAsked, IsTextAsked, is_none_or};
 ghost use Rattle.smap_c.specs.declared.handles.Held.{Held};
 
-use crate::codes::CLOSED;
 use crate::maps::Shared;
 use crate::opened::Opened;
+use smap_c_answers::CLOSED;
 use smap_mappings::Memory;
 use smap_trace::Scripts;
 use std::alloc::{Allocator, Global};

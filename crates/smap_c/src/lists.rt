@@ -6,9 +6,8 @@ ghost use Rattle.smap_c.specs.Lists.{ListedToken, WrittenSource, WrittenRoot};
 ghost use Rattle.smap_c.specs.Lists.{WrittenSourceReported, WrittenRootReported};
 ghost use Rattle.smap_c.specs.Handles.{held_map};
 
-use crate::codes::{OK, RANGE};
 use crate::handles::{SmapMap, with_open, with_text};
-use crate::strings::{copy_out, report_text};
+use smap_c_answers::{OK, RANGE, copy_out, report_text};
 use smap_mappings::Token;
 use smap_record::{SourceMap, WrittenSources};
 use std::alloc::Global;

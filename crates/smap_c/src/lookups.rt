@@ -5,10 +5,9 @@ ghost use Rattle.smap_c.specs.Lookups.{NameReported, NameAt};
 ghost use Rattle.smap_c.specs.Lookups.{TokenReported, Token};
 ghost use Rattle.smap_c.specs.Handles.{held_map};
 
-use crate::codes::{NONE, OK, RANGE};
 use crate::handles::{SmapMap, with_open, with_text};
 use crate::opened::Opened;
-use crate::strings::report_text;
+use smap_c_answers::{NONE, OK, RANGE, report_text};
 use smap_record::{SourceMap, TokenView};
 use smap_trace::{find_in, lookup_in};
 use std::alloc::Global;

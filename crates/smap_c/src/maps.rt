@@ -7,12 +7,10 @@ ghost use Rattle.smap_c.specs.Memory.{TakesMemory};
 ghost use Rattle.smap_c.specs.Faults.{IsWhole};
 ghost use Rattle.smap_c.specs.Handles.{held_map, is_map};
 
-use crate::codes::{CLOSED, LIMITS, MEMORY, NOT_URL, OK};
 use crate::faults::{SmapFault, report_fault};
 use crate::handles::{Held, SmapMap, with_open, with_text};
-use crate::memory::memory_with;
 use crate::opened::Opened;
-use crate::strings::report_text;
+use smap_c_answers::{CLOSED, LIMITS, MEMORY, NOT_URL, OK, memory_of, report_text};
 use smap_canon::same;
 use smap_mappings::{MAX_LINES, Memory};
 use smap_record::{Base, BaseFault, Fault, Limits, ReadError, SourceMap};
@@ -257,7 +255,7 @@ pub extern "C" fn smap_held(alloc: Global, map: &mut SmapMap, out: &mut usize) -
     ensures same { map.new.owner.value ≡ map.old.owner.value }
 {
     with_open(alloc, map, out, |opened, out| {
-        *out = memory_with(opened);
+        *out = memory_of(&opened.base, &opened.map, &opened.written);
         OK
     })
 }

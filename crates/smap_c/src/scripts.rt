@@ -7,10 +7,10 @@ ghost use Rattle.smap_c.specs.Scripts.{TranslatesInto, TranslatesBy};
 ghost use Rattle.smap_c.specs.Handles.{held_bytes, held_map, held_scripts, is_scripts};
 ghost use Rattle.smap_c.specs.Traces.{fates};
 
-use crate::codes::{CLOSED, MEMORY, NOT_URL, OK};
 use crate::handles::{Held, SmapBytes, SmapMap, SmapScripts};
 use crate::maps::Shared;
 use crate::traces::{hides, mode_in};
+use smap_c_answers::{CLOSED, MEMORY, NOT_URL, OK};
 use smap_io::Device;
 use smap_mappings::Memory;
 use smap_trace::{Counts, Scripts, translate_in};

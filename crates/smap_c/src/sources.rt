@@ -4,9 +4,8 @@ ghost use Rattle.smap_c.specs.Sources.{UrlReported, ContentReported, SourceUrl, 
 ghost use Rattle.smap_c.specs.Sources.{IgnoredReported, Ignored};
 ghost use Rattle.smap_c.specs.Handles.{held_map};
 
-use crate::codes::{OK, RANGE};
 use crate::handles::{SmapMap, with_open, with_text};
-use crate::strings::report_text;
+use smap_c_answers::{OK, RANGE, report_text};
 use smap_record::SourceMap;
 use std::alloc::Global;
 

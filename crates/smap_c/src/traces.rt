@@ -3,9 +3,8 @@ ghost use Rattle.std.specs.Prelude.{◌≡◌};
 ghost use Rattle.smap_c.specs.Traces.{mode_in, hides, FrameReported, LineReported, LineBy, ReportsLine};
 ghost use Rattle.smap_c.specs.Handles.{held_map};
 
-use crate::codes::{CLOSED, MEMORY, NONE, NOT_URL, OK};
 use crate::handles::SmapMap;
-use crate::strings::copy_out;
+use smap_c_answers::{CLOSED, MEMORY, NONE, NOT_URL, OK, copy_out};
 use smap_record::SourceMap;
 use smap_trace::{LineOutcome, MatchMode, frame, translate_line_by};
 use std::alloc::Global;

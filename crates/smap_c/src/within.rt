@@ -3,11 +3,11 @@ ghost use Rattle.smap_c.specs.Maps.{OpensAgainst, OpensWithin, OpensIntoWithin};
 ghost use Rattle.smap_c.specs.Faults.{IsWhole};
 ghost use Rattle.smap_c.specs.Handles.{held_map};
 
-use crate::codes::{LIMITS, MEMORY, NOT_URL, OK, URL_BYTES};
 use crate::faults::{SmapFault, report_fault};
 use crate::handles::SmapMap;
 use crate::maps::{OpenFault, Shared, SmapLimits, limits_of};
 use crate::opened::Opened;
+use smap_c_answers::{LIMITS, MEMORY, NOT_URL, OK, URL_BYTES};
 use smap_record::{Base, BaseFault, Limits, ReadError, SourceMap};
 use std::alloc::Global;
 use std::str;

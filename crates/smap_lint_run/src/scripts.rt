@@ -4,7 +4,7 @@ use crate::links::{absent_words, wrong_words};
 use crate::visit::Visit;
 use smap_link::link_in;
 use smap_lint_rules::Check;
-use smap_map_files::{Home, Target, target_of};
+use smap_map_files::{Home, LinkProblem, ScriptMap, map_of};
 use smap_system::{Disk, Stop};
 use std::alloc::AllocError;
 
@@ -85,33 +85,34 @@ impl<E: Eprint + AllocGlobal, D: Disk> Visit<'_, '_, E, D> {
         Ok(())
     }
 
-    /// Lints a script that names no map, or none that can be followed: by the map beside it, if there is one.
-    fn lint_beside(&mut self, script: Script<'_>, is_named: bool) -> Result<(), Stop> {
-        if self.folder.number(script.beside).is_some() {
-            return self.lint_file(script, script.beside);
-        }
-        if !is_named {
-            self.book.count_mapless(script.file)?;
-        }
-        Ok(())
+    /// Notes why the map that a script names can't be had.
+    fn note_problem(&mut self, script: Script<'_>, problem: LinkProblem) -> Result<(), AllocError> {
+        let alloc = self.book.alloc;
+        let url = link_in(script.name.as_bytes(), script.text).unwrap_or(b"".as_slice());
+        let (check, message) = match problem {
+            LinkProblem::Absent(why) => absent_words(alloc, why, url)?,
+            LinkProblem::Wrong(why) => wrong_words(alloc, why, url)?,
+        };
+        self.book.add(check, script.file, message)
     }
 
-    /// Lints a script that names this URL for its map.
-    fn lint_named(&mut self, script: Script<'_>, url: &[u8]) -> Result<(), Stop> {
-        let alloc = self.host.alloc();
-        let home = Home {
-            path: self.folder.path.as_str(),
-            url: self.folder.url.as_bytes(),
-        };
-        let name = script.name.as_bytes();
-        let (check, message) = match target_of(alloc, self.host.disk, home, name, url)? {
-            Target::Inline(bytes) => return self.lint_inline(script, bytes),
-            Target::File(map) => return self.lint_linked(script, map.as_str()),
-            Target::Absent(_, why) => absent_words(alloc, why, url)?,
-            Target::Wrong(why) => wrong_words(alloc, why, url)?,
-        };
-        self.book.add(check, script.file, message)?;
-        self.lint_beside(script, true)
+    /// Lints the map that a script has, and notes why it isn't the one that it names.
+    fn lint_map(
+        &mut self,
+        script: Script<'_>,
+        map: ScriptMap,
+        problem: Option<LinkProblem>,
+    ) -> Result<(), Stop> {
+        if let Some(problem) = problem {
+            self.note_problem(script, problem)?;
+        }
+        match map {
+            ScriptMap::Inline(bytes) => self.lint_inline(script, bytes),
+            ScriptMap::Named(map) => self.lint_linked(script, map.as_str()),
+            ScriptMap::Beside(map) => self.lint_file(script, map.as_str()),
+            ScriptMap::Nothing if problem.is_none() => Ok(self.book.count_mapless(script.file)?),
+            ScriptMap::Nothing => Ok(()),
+        }
     }
 
     /// Lints the script with this name, and its map.
@@ -128,9 +129,11 @@ impl<E: Eprint + AllocGlobal, D: Disk> Visit<'_, '_, E, D> {
             beside: beside.as_str(),
             text: &text,
         };
-        match link_in(name.as_bytes(), script.text) {
-            Some(url) => self.lint_named(script, url),
-            None => self.lint_beside(script, false),
-        }
+        let home = Home {
+            path: self.folder.path.as_str(),
+            url: self.folder.url.as_bytes(),
+        };
+        let (map, problem) = map_of(alloc, self.host.disk, home, name, script.text)?;
+        self.lint_map(script, map, problem)
     }
 }

@@ -5,3 +5,4 @@ pub mod Opening
 pub mod Places
 pub mod PlaceView
 pub mod Named
+pub mod ScriptMap

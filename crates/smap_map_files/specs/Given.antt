@@ -4,6 +4,7 @@ use Rattle.std.specs.Prelude.{◌≡◌, ◌⊎◌, ℕ, ◌-◌, ◌==◌, ◌&
 use Rattle.std.specs.Prelude.{List, [], codes, cond, drop, length, take, ⊤}
 use Rattle.std.specs.Prelude.{Option, Some, None, option_and_then, option_map, unwrap_or, Result, Ok, Err}
 use Rattle.std.specs.Prelude.{IsErr}
+use Rattle.std.specs.Global.{Vec}
 use Rattle.std.specs.List.{starts_with, suffix_len}
 use Rattle.std.specs.Path.{rsplit_once, slash}
 use Rattle.std.specs.Str.{is_utf8}
@@ -25,6 +26,12 @@ use Rattle.smap_record.specs.Ends.{ended_map}
 use Rattle.smap_record.specs.Faults.{Checked}
 use Rattle.smap_record.specs.Record.{ReadMap, usual}
 use Rattle.smap_record.specs.UrlBytes.{reading_within}
+use Rattle.smap_record.specs.declared.fault.Fault.{Fault}
+use Rattle.smap_repair.specs.Repairing.{IsRepaired}
+use Rattle.smap_repair.specs.Unmarking.{IsMarkedOnly, LosesMark}
+use Rattle.smap_repair.specs.declared.repair.Repair.{Repair}
+use Rattle.smap_repair.specs.declared.repairing.Repaired.{Repaired}
+use Rattle.smap_repair.specs.declared.repairing.Repaired.TheVariants as answer
 use Rattle.smap_map_files.specs.declared.following.Followed.{Followed}
 use Rattle.smap_map_files.specs.declared.following.Followed.TheVariants as followed
 use Rattle.smap_map_files.specs.declared.loading.Content.{Content}
@@ -33,27 +40,64 @@ use Rattle.smap_map_files.specs.declared.loading.Loaded.{Loaded}
 use Rattle.smap_map_files.specs.declared.loading.Loaded.TheVariants as loaded
 use Rattle.smap_map_files.specs.declared.loading.MapFault.{MapFault}
 use Rattle.smap_map_files.specs.declared.loading.MapFault.TheVariants as fault
+use Rattle.smap_map_files.specs.declared.loading.Reading.{Reading}
 
--- These bytes, with this URL of their own, are read so, where the URLs of a map's sources may take so many
--- bytes.
-abbrev pub IsReading : ℕ → List ℕ → List ℕ → Checked (Option ReadMap) → Type 0
-IsReading most url bytes read =
-    (base : Parts) × (parse_url None url ≡ Ok base) × (reading_within base usual most bytes ≡ read)
+-- What holds of the URL that a text has, as it is parsed.
+abbrev pub WithBase : List ℕ → (Parts → Type 0) → Type 0
+WithBase url Holds = (base : Parts) × (parse_url None url ≡ Ok base) × Holds base
+
+-- These bytes, with this URL of their own, are read so.
+abbrev pub IsReading : Reading → List ℕ → List ℕ → Checked (Option ReadMap) → Type 0
+IsReading how url bytes read = WithBase url (λ base. reading_within base usual how.url_bytes bytes ≡ read)
+
+-- What `repair_text` answers for a text.
+pub record IsRepairOf (base : Parts) (most : ℕ) (bytes : List ℕ) (answer : Repaired) : Type 0 where
+  pub repaired : IsRepaired base usual most bytes answer
+  pub mark : IsMarkedOnly base usual most bytes → LosesMark bytes answer
+
+-- The text that it mends is read as this map.
+pub record IsMended (base : Parts) (most : ℕ) (bytes : List ℕ) (m : ReadMap) : Type 0 where
+  pub text : Vec ℕ
+  pub repairs : Vec Repair
+  pub answered : IsRepairOf base most bytes (answer.Mended text repairs)
+  pub reads : reading_within base usual most text.items ≡ Ok (Some m)
+
+abbrev pub is_mended : Repaired → Bool
+is_mended answer.Sound = false
+is_mended (answer.Mended text repairs) = true
+is_mended (answer.Refused first left) = false
+is_mended answer.LongUrls = false
+
+-- It mends none.
+pub record IsUnmended (base : Parts) (most : ℕ) (bytes : List ℕ) : Type 0 where
+  pub answer : Repaired
+  pub answered : IsRepairOf base most bytes answer
+  pub none : is_mended answer ≡ false
+
+-- These bytes are refused with this fault, and not mended, if such maps are.
+abbrev pub IsRefusal : Reading → List ℕ → Fault → Parts → Type 0
+IsRefusal how bytes e base = (reading_within base usual how.url_bytes bytes ≡ Err e)
+    × (how.mends ≡ true → IsUnmended base how.url_bytes bytes)
 
 -- What is wrong with these bytes as a map with this URL.
-abbrev pub IsFault : ℕ → List ℕ → List ℕ → MapFault → Type 0
-IsFault most url bytes fault.Unread = ⊥
-IsFault most url bytes fault.TooLong = ⊥
-IsFault most url bytes fault.NotUtf8 = is_utf8 url ≡ false
-IsFault most url bytes fault.NotUrl = IsErr (parse_url None url)
-IsFault most url bytes (fault.Link what) = ⊥
-IsFault most url bytes (fault.Refused e said) = IsReading most url bytes (Err e)
-IsFault most url bytes (fault.UrlBytes n) = (n ≡ most) × IsReading most url bytes (Ok None)
+abbrev pub IsFault : Reading → List ℕ → List ℕ → MapFault → Type 0
+IsFault how url bytes fault.Unread = ⊥
+IsFault how url bytes fault.TooLong = ⊥
+IsFault how url bytes fault.NotUtf8 = is_utf8 url ≡ false
+IsFault how url bytes fault.NotUrl = IsErr (parse_url None url)
+IsFault how url bytes (fault.Link what) = ⊥
+IsFault how url bytes (fault.Refused e said) = WithBase url (IsRefusal how bytes e)
+IsFault how url bytes (fault.UrlBytes n) = (n ≡ how.url_bytes) × IsReading how url bytes (Ok None)
 
--- What became of these bytes: the map that they are, or what is wrong with them.
-abbrev pub IsRead : ℕ → List ℕ → List ℕ → Loaded → Type 0
-IsRead most url bytes (loaded.Map m) = IsReading most url bytes (Ok (Some m))
-IsRead most url bytes (loaded.Broken e) = IsFault most url bytes e
+-- Refused maps are mended, and the mended text of these bytes is read as this map.
+abbrev pub IsMendedTo : Reading → List ℕ → List ℕ → ReadMap → Type 0
+IsMendedTo how url bytes m = (how.mends ≡ true) × WithBase url (λ base. IsMended base how.url_bytes bytes m)
+
+-- What became of these bytes: the map that they are, or their mended text is, or what is wrong with them.
+abbrev pub IsRead : Reading → List ℕ → List ℕ → Loaded → Type 0
+IsRead how url bytes (loaded.Map m) = IsReading how url bytes (Ok (Some m))
+IsRead how url bytes (loaded.Mended m why) = IsMendedTo how url bytes m
+IsRead how url bytes (loaded.Broken e) = IsFault how url bytes e
 
 -- A map as that of a script whose lines are so wide, if that is known.
 abbrev pub ended_by : Option (List ℕ) → ReadMap → ReadMap
@@ -62,14 +106,16 @@ ended_by (Some widths) m = ended_map widths m
 
 abbrev pub ended_loaded : Option (List ℕ) → Loaded → Loaded
 ended_loaded ends (loaded.Map m) = loaded.Map (ended_by ends m)
+ended_loaded ends (loaded.Mended m why) = loaded.Mended (ended_by ends m) why
 ended_loaded ends (loaded.Broken e) = loaded.Broken e
 
--- What became of these bytes: the map that they are, ended where the lines of its script are if that is
--- known, or what is wrong with them.
-abbrev pub IsReadTo : ℕ → List ℕ → List ℕ → Option (List ℕ) → Loaded → Type 0
-IsReadTo most url bytes ends (loaded.Map m) =
-    (whole : ReadMap) × (IsReading most url bytes (Ok (Some whole)) × (m ≡ ended_by ends whole))
-IsReadTo most url bytes ends (loaded.Broken e) = IsFault most url bytes e
+-- What became of these bytes, where a map ends where the lines of its script do, if that is known.
+abbrev pub IsReadTo : Reading → List ℕ → List ℕ → Option (List ℕ) → Loaded → Type 0
+IsReadTo how url bytes ends (loaded.Map m) =
+    (whole : ReadMap) × (IsReading how url bytes (Ok (Some whole)) × (m ≡ ended_by ends whole))
+IsReadTo how url bytes ends (loaded.Mended m why) =
+    (whole : ReadMap) × (IsMendedTo how url bytes whole × (m ≡ ended_by ends whole))
+IsReadTo how url bytes ends (loaded.Broken e) = IsFault how url bytes e
 
 abbrev pub IsUnreadBy : MapFault → Type 0
 IsUnreadBy fault.Unread = ⊤
@@ -83,17 +129,18 @@ IsUnreadBy (fault.UrlBytes n) = ⊥
 -- A file can't be read, or is too long.
 abbrev pub IsUnread : Loaded → Type 0
 IsUnread (loaded.Map m) = ⊥
+IsUnread (loaded.Mended m why) = ⊥
 IsUnread (loaded.Broken e) = IsUnreadBy e
 
 -- What became of the file of a map, where it is said what files hold.
-abbrev pub IsLoaded : ℕ → (List ℕ → Option (List ℕ)) → MapPlace → Loaded → Type 0
-IsLoaded most held place it =
-    IsUnread it ⊎ ((bytes : List ℕ) × (held place.file ≡ Some bytes) × IsRead most place.base bytes it)
+abbrev pub IsLoaded : Reading → (List ℕ → Option (List ℕ)) → MapPlace → Loaded → Type 0
+IsLoaded how held place it =
+    IsUnread it ⊎ ((bytes : List ℕ) × (held place.file ≡ Some bytes) × IsRead how place.base bytes it)
 
 -- The same, ended so.
-abbrev pub IsLoadedTo : ℕ → Option (List ℕ) → (List ℕ → Option (List ℕ)) → MapPlace → Loaded → Type 0
-IsLoadedTo most ends held place it =
-    IsUnread it ⊎ ((bytes : List ℕ) × (held place.file ≡ Some bytes) × IsReadTo most place.base bytes ends it)
+abbrev pub IsLoadedTo : Reading → Option (List ℕ) → (List ℕ → Option (List ℕ)) → MapPlace → Loaded → Type 0
+IsLoadedTo how ends held place it =
+    IsUnread it ⊎ ((bytes : List ℕ) × (held place.file ≡ Some bytes) × IsReadTo how place.base bytes ends it)
 
 -- What the file of a place holds: the text of a script, or other bytes; or it can't be read.
 abbrev pub IsContent : (List ℕ → Option (List ℕ)) → MapPlace → Content → Type 0

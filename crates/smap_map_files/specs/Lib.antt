@@ -6,6 +6,7 @@ pub mod Opened
 pub mod Positions
 pub mod Refusals
 pub mod RootView
+pub mod ScriptMap
 pub mod Settling
 pub mod SubjectView
 pub mod Target

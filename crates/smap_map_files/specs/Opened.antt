@@ -10,6 +10,7 @@ use Rattle.smap_map_files.specs.declared.loading.Loaded.{Loaded}
 use Rattle.smap_map_files.specs.declared.loading.Loaded.TheVariants as loaded
 use Rattle.smap_map_files.specs.declared.loading.MapFault.{MapFault}
 use Rattle.smap_map_files.specs.declared.loading.MapFault.TheVariants as fault
+use Rattle.smap_map_files.specs.declared.loading.Reading.{Reading}
 use Rattle.smap_map_files.specs.Given.{Folder, Holds, IsReadTo, IsUnread, Names, NamesNothing, NamesUnfound}
 use Rattle.smap_map_files.specs.Given.{ends_of, folder_for, linked_base}
 use Rattle.smap_map_files.specs.WantedView.{may_name_map}
@@ -90,27 +91,29 @@ Gives held root has_base place base bytes ends = GivesBy held root has_base plac
     ⊎ ((IsItself held place base bytes × AreBeside held root place ends)
     ⊎ ((may_lie_beside root place ≡ true) × GivesBy held root has_base (script_beside place) base bytes ends))
 
--- What became of bytes that are so given, where the URLs of a map's sources may take so many bytes.
-pub record IsGivenBy (most : ℕ) (Is : List ℕ → List ℕ → Option (List ℕ) → Type 0) (it : Loaded) : Type 0 where
+-- What became of bytes that are so given.
+pub record IsGivenBy (how : Reading) (Is : List ℕ → List ℕ → Option (List ℕ) → Type 0) (it : Loaded)
+    : Type 0 where
   pub base : List ℕ
   pub bytes : List ℕ
   pub ends : Option (List ℕ)
   pub gives : Is base bytes ends
-  pub read : IsReadTo most base bytes ends it
+  pub read : IsReadTo how base bytes ends it
 
 -- ---- a map was opened
 
--- The map of the file of a place, where it is said what files hold.
-abbrev pub IsOpened : ℕ → Held → Option Folder → Bool → MapPlace → ReadMap → Type 0
-IsOpened most None root has_base place m = ⊤
-IsOpened most (Some held) root has_base place m =
-    IsGivenBy most (Gives held root has_base place) (loaded.Map m)
+-- The map of the file of a place, as it is read or by its mended text, where it is said what files hold.
+abbrev pub IsOpened : Reading → Held → Option Folder → Bool → MapPlace → ReadMap → Type 0
+IsOpened how None root has_base place m = ⊤
+IsOpened how (Some held) root has_base place m = IsGivenBy how (Gives held root has_base place) (loaded.Map m)
+    ⊎ ((why : MapFault) × IsGivenBy how (Gives held root has_base place) (loaded.Mended m why))
 
 -- ---- or none was
 
 -- It is refused for what it names.
 abbrev pub IsLink : Loaded → Type 0
 IsLink (loaded.Map m) = ⊥
+IsLink (loaded.Mended m why) = ⊥
 IsLink (loaded.Broken fault.Unread) = ⊥
 IsLink (loaded.Broken fault.TooLong) = ⊥
 IsLink (loaded.Broken fault.NotUtf8) = ⊥
@@ -130,29 +133,29 @@ pub record IsUnlinked (held : List ℕ → Option (List ℕ)) (root : Option Fol
 
 -- The file of a place, or that which a script names, can't be read; the script names what can't be had; or
 -- bytes are so given for the map.
-abbrev pub IsReachedBy : ℕ → (List ℕ → Option (List ℕ)) → (List ℕ → List ℕ → Option (List ℕ) → Type 0)
+abbrev pub IsReachedBy : Reading → (List ℕ → Option (List ℕ)) → (List ℕ → List ℕ → Option (List ℕ) → Type 0)
     → Option Folder → MapPlace → Loaded → Type 0
-IsReachedBy most held Are root place it =
-    IsUnread it ⊎ (IsUnlinked held root place it ⊎ IsGivenBy most Are it)
+IsReachedBy how held Are root place it =
+    IsUnread it ⊎ (IsUnlinked held root place it ⊎ IsGivenBy how Are it)
 
 -- What became of what the file of a place is, holds or names.
-abbrev pub IsFollowedUp : ℕ → Held → Option Folder → Bool → MapPlace → Loaded → Type 0
-IsFollowedUp most None root has_base place it = ⊤
-IsFollowedUp most (Some held) root has_base place it =
-    IsReachedBy most held (GivesBy held root has_base place) root place it
+abbrev pub IsFollowedUp : Reading → Held → Option Folder → Bool → MapPlace → Loaded → Type 0
+IsFollowedUp how None root has_base place it = ⊤
+IsFollowedUp how (Some held) root has_base place it =
+    IsReachedBy how held (GivesBy held root has_base place) root place it
 
 -- What became of the map of a place.
-abbrev pub IsReached : ℕ → Held → Option Folder → Bool → MapPlace → Loaded → Type 0
-IsReached most None root has_base place it = ⊤
-IsReached most (Some held) root has_base place it =
-    IsReachedBy most held (Gives held root has_base place) root place it
+abbrev pub IsReached : Reading → Held → Option Folder → Bool → MapPlace → Loaded → Type 0
+IsReached how None root has_base place it = ⊤
+IsReached how (Some held) root has_base place it =
+    IsReachedBy how held (Gives held root has_base place) root place it
 
 -- It is no map, which ends the run with this status or a greater one, unless such maps are skipped.
-pub record IsRefused (most : ℕ) (held : Held) (root : Option Folder) (has_base : Bool) (place : MapPlace)
+pub record IsRefused (how : Reading) (held : Held) (root : Option Folder) (has_base : Bool) (place : MapPlace)
     (worst : ℕ) : Type 0 where
   pub is_bad : 0 < worst
   pub why : MapFault
-  pub reached : IsReached most held root has_base place (loaded.Broken why)
+  pub reached : IsReached how held root has_base place (loaded.Broken why)
 
 -- A script in a folder is left out: its text names nothing, or what can't be had.
 pub record IsLeftOut (held : Held) (root : Option Folder) (place : MapPlace) : Type 0 where
@@ -163,6 +166,6 @@ pub record IsLeftOut (held : Held) (root : Option Folder) (place : MapPlace) : T
   pub names : NamesNothing place.file text ⊎ NamesUnfound folder place.file text
 
 -- The file of a place gives no map.
-abbrev pub GivesNone : ℕ → Held → Option Folder → Bool → MapPlace → ℕ → Type 0
-GivesNone most held root has_base place worst =
-    IsLeftOut held root place ⊎ IsRefused most held root has_base place worst
+abbrev pub GivesNone : Reading → Held → Option Folder → Bool → MapPlace → ℕ → Type 0
+GivesNone how held root has_base place worst =
+    IsLeftOut held root place ⊎ IsRefused how held root has_base place worst

@@ -16,4 +16,4 @@ pub record IsScriptBeside (map script : Subject) : Type 0 where
   pub place_is : place_in script.place ≡ script_beside (place_in map.place)
   pub root_is : script.root ≡ map.root
   pub has_base_is : script.has_base ≡ map.has_base
-  pub url_bytes_are : script.url_bytes ≡ map.url_bytes
+  pub reading_is : script.reading ≡ map.reading

@@ -4,14 +4,6 @@ use smap_record::{Base, BaseFault};
 use smap_system::{Disk, Host, Stop};
 use std::alloc::{AllocError, Global};
 
-fn holds_space(text: &str) -> bool {
-    text.contains(' ') || text.contains('\n')
-}
-
-fn has_query(text: &str) -> bool {
-    text.contains('?') || text.contains('#')
-}
-
 /// A URL or a path with one slash at its end at least.
 ///
 /// # Errors
@@ -28,11 +20,11 @@ pub fn base_given<E: Eprint + AllocGlobal, D: Disk>(
     base: &str,
 ) -> Result<String, Stop> {
     let alloc = host.alloc();
-    if holds_space(base) {
+    if base.contains(' ') || base.contains('\n') {
         let text = format!(in alloc; "the base holds a space (in a URL that is %20): {base}")?;
         return Err(host.fail(2, text.as_str()));
     }
-    if has_query(base) {
+    if base.contains('?') || base.contains('#') {
         let text = format!(in alloc; "the base has a query or a fragment: {base}")?;
         return Err(host.fail(2, text.as_str()));
     }

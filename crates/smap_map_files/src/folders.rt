@@ -125,22 +125,16 @@ fn has_map<E: Eprint + AllocGlobal, D: Disk>(
     }
     for name in names {
         let file = below(alloc, path.as_bytes(), name.as_str().as_bytes())?;
-        if names_map(host, &file) {
+        let Ok(file) = std::str::from_utf8(&file) else {
+            continue;
+        };
+        if let Ok(text) = read_file(alloc, host.disk, file, LIMIT)
+            && link_in(file.as_bytes(), &text).is_some()
+        {
             return Ok(true);
         }
     }
     Ok(false)
-}
-
-/// Whether a script or a style sheet names a map.
-fn names_map<E: Eprint + AllocGlobal, D: Disk>(host: &Host<'_, E, D>, file: &[u8]) -> bool {
-    let Ok(file) = std::str::from_utf8(file) else {
-        return false;
-    };
-    match read_file(host.alloc(), host.disk, file, LIMIT) {
-        Ok(text) => link_in(file.as_bytes(), &text).is_some(),
-        Err(_) => false,
-    }
 }
 
 /// The names of the maps in a folder and below it, and of the scripts there that may name theirs, in byte

@@ -1,6 +1,5 @@
 //! The map that a script names.
 ghost use Rattle.std.specs.Prelude.{◌≡◌, ◌≤◌, IfOk, length};
-ghost use Rattle.smap_link.specs.Alike.{own_url as own_url_of};
 ghost use Rattle.smap_map_choice.specs.PlaceView.{place_in};
 ghost use Rattle.smap_map_files.specs.Given as spec;
 ghost use Rattle.smap_map_files.specs.Given.{IsFollowed};
@@ -9,7 +8,7 @@ ghost use Rattle.smap_map_files.specs.RootView.{folder_of};
 use crate::Root;
 use crate::bases::with_slash;
 use crate::target::{Absence, Home, Target, target_of};
-use smap_link::{LinkFault, bare, link_in, own_url, resolved};
+use smap_link::{LinkFault, bare, link_in, resolved};
 use smap_map_choice::{NamedFault, Place, below};
 use smap_system::{Disk, Host, Stop, printable};
 use std::alloc::{AllocError, Global};
@@ -217,11 +216,4 @@ pub fn follow<E: Eprint + AllocGlobal, D: Disk>(
         Some(root) => follow_in(host, script, &root.url, root.path.as_str(), text),
         None => follow_alone(host, script, text),
     }
-}
-
-/// The URL of a map that stands in its script.
-pub(crate) fn inline_base(alloc: Global, script: &[u8]) -> Result<Vec<u8>, AllocError>
-    ensures { IfOk result (λ url. url.items ≡ own_url_of script.now) }
-{
-    own_url(alloc, script)
 }

@@ -7,8 +7,9 @@ ghost use Rattle.smap_map_choice.specs.PlaceView.{place_in};
 
 use crate::map_text::MapText;
 use crate::may_name_map;
+use smap_fault_places::detail;
 use smap_map_choice::{OpenFault, Place, Store};
-use smap_record::{Base, BaseFault, Fault, Limits, ReadError, SourceMap};
+use smap_record::{Base, BaseFault, Fault, ReadError, SourceMap};
 use smap_system::{Disk, FileFault, Kind, LIMIT, read_file};
 use std::alloc::{AllocError, Global};
 
@@ -31,11 +32,22 @@ pub enum MapFault {
     UrlBytes(usize),
 }
 
+/// How the texts of maps are read.
+#[derive(Clone, Copy)]
+pub struct Reading {
+    /// How many bytes the URLs of a map's sources may take.
+    pub url_bytes: usize,
+    /// Whether one that is refused is mended, if the closed list of repairs suffices.
+    pub mends: bool,
+}
+
 /// What a file gives for a map.
 #[derive(Drop)]
 pub enum Loaded {
     /// The map.
     Map(SourceMap),
+    /// That of its mended text, and why it is refused as it is.
+    Mended(SourceMap, MapFault),
     /// None, and why.
     Broken(MapFault),
 }
@@ -51,16 +63,16 @@ pub enum Content {
     Unread(MapFault),
 }
 
-/// The map that these bytes are, the URLs of whose sources may take so many bytes, or what is wrong with
-/// them; `is_file` says whether they are all that a file holds.
+/// The map that these bytes are, or their mended text is, or what is wrong with them; `is_file` says whether
+/// they are all that a file holds.
 pub(crate) fn loaded_from(
     alloc: Global,
     bytes: &[u8],
     base: &[u8],
-    url_bytes: usize,
+    reading: Reading,
     is_file: bool,
 ) -> Result<Loaded, AllocError>
-    ensures { IfOk result (IsRead url_bytes base.now bytes.now) }
+    ensures { IfOk result (IsRead reading base.now bytes.now) }
 {
     let Ok(base) = std::str::from_utf8(base) else {
         return Ok(Loaded::Broken(MapFault::NotUtf8));
@@ -70,18 +82,26 @@ pub(crate) fn loaded_from(
         Err(BaseFault::NotUrl) => return Ok(Loaded::Broken(MapFault::NotUrl)),
         Err(BaseFault::Memory) => return Err(AllocError),
     };
-    match SourceMap::from_slice_within(alloc, bytes, &base, Limits::usual(), url_bytes) {
-        Ok(Some((map, _))) => Ok(Loaded::Map(map)),
-        Ok(None) => Ok(Loaded::Broken(MapFault::UrlBytes(url_bytes))),
+    let text = MapText {
+        bytes,
+        base: &base,
+        url_bytes: reading.url_bytes,
+        is_file,
+    };
+    match text.read(alloc, bytes) {
+        Ok(Some(map)) => Ok(Loaded::Map(map)),
+        Ok(None) => Ok(Loaded::Broken(MapFault::UrlBytes(reading.url_bytes))),
         Err(ReadError::Refused(fault)) => {
-            let text = MapText {
-                bytes,
-                base: &base,
-                url_bytes,
-                is_file,
-            };
-            let detail = text.detail(alloc, &fault)?;
-            Ok(Loaded::Broken(MapFault::Refused(fault, detail)))
+            if !reading.mends {
+                let said = text.detail(alloc, &fault)?;
+                return Ok(Loaded::Broken(MapFault::Refused(fault, said)));
+            }
+            let said = detail(alloc, bytes, &fault)?;
+            let why = MapFault::Refused(fault, said);
+            match text.mended(alloc)? {
+                Some(map) => Ok(Loaded::Mended(map, why)),
+                None => Ok(Loaded::Broken(why)),
+            }
         }
         Err(ReadError::Memory) => Err(AllocError),
     }
@@ -116,15 +136,15 @@ fn load_map<D: Disk>(
     alloc: Global,
     disk: &D,
     place: &Place,
-    url_bytes: usize,
+    reading: Reading,
 ) -> Result<Loaded, AllocError>
-    ensures { IfOk result (IsMadeOf (IsLoaded url_bytes) (D.held disk.now) (place_in place.now)) }
+    ensures { IfOk result (IsMadeOf (IsLoaded reading) (D.held disk.now) (place_in place.now)) }
 {
     let Ok(file) = std::str::from_utf8(&place.file) else {
         return Ok(Loaded::Broken(MapFault::Unread));
     };
     match read_file(alloc, disk, file, LIMIT) {
-        Ok(bytes) => loaded_from(alloc, &bytes, &place.base, url_bytes, true),
+        Ok(bytes) => loaded_from(alloc, &bytes, &place.base, reading, true),
         Err(fault) => Ok(Loaded::Broken(unread(fault)?)),
     }
 }
@@ -175,16 +195,16 @@ impl<'a, D> FileStore<'a, D> {
         &mut self,
         alloc: Global,
         place: &Place,
-        url_bytes: usize,
+        reading: Reading,
     ) -> Result<Loaded, AllocError>
     where
         D: Disk,
         ensures loaded { IfOk result
-            (IsMadeOf (IsLoaded url_bytes) (D.held self.old.disk.now) (place_in place.now)) }
+            (IsMadeOf (IsLoaded reading) (D.held self.old.disk.now) (place_in place.now)) }
         ensures disk { self.new.disk ≡ self.old.disk }
     {
         self.note(alloc, &place.file)?;
-        load_map(alloc, self.disk, place, url_bytes)
+        load_map(alloc, self.disk, place, reading)
     }
 }
 

@@ -1,5 +1,5 @@
 //! The map that a file is, holds or names.
-ghost use Rattle.std.specs.Prelude.{◌≡◌, ◌<◌, ◌≤◌, cond, IfOk, IfSome, IsSome, MatchOption, None};
+ghost use Rattle.std.specs.Prelude.{◌≡◌, ◌⊎◌, ◌<◌, ◌≤◌, cond, IfOk, IfSome, IsSome, MatchOption, None};
 ghost use Rattle.smap_system.specs.Held.{IsHeld};
 ghost use Rattle.smap_link.specs.Kinds.{file_kind as spec_kind};
 ghost use Rattle.smap_map_files.specs.Given as spec;
@@ -14,11 +14,11 @@ ghost use Rattle.smap_map_files.specs.declared.loading.MapFault.{MapFault};
 
 use crate::Root;
 use crate::folders::{is_map, stem};
-use crate::following::{Followed, follow, inline_base};
-use crate::loading::{Content, FileStore, Loaded, MapFault, loaded_from};
-use crate::telling::{say_fault, say_of, say_used};
+use crate::following::{Followed, follow};
+use crate::loading::{Content, FileStore, Loaded, MapFault, Reading, loaded_from};
+use crate::telling::{say_fault, say_mended, say_of, say_used};
 use crate::wanted::may_name_map;
-use smap_link::{FileKind, file_kind};
+use smap_link::{FileKind, file_kind, own_url};
 use smap_map_choice::{Place, Store};
 use smap_mappings::script_widths;
 use smap_record::SourceMap;
@@ -43,8 +43,8 @@ pub struct Subject<'a> {
     pub root: Option<&'a Root>,
     /// Whether its base was given.
     pub has_base: bool,
-    /// How many bytes the URLs of its sources may take.
-    pub url_bytes: usize,
+    /// How its text is read.
+    pub reading: Reading,
 }
 
 /// What the script next to a map of a folder says of it.
@@ -112,6 +112,7 @@ fn ended(alloc: Global, loaded: Loaded, ends: &Option<Vec<usize>>) -> Result<Loa
     };
     match loaded {
         Loaded::Map(map) => Ok(Loaded::Map(map.ended(alloc, widths)?)),
+        Loaded::Mended(map, why) => Ok(Loaded::Mended(map.ended(alloc, widths)?, why)),
         Loaded::Broken(fault) => Ok(Loaded::Broken(fault)),
     }
 }
@@ -124,16 +125,16 @@ fn inline_loaded<E: Eprint + AllocGlobal, D: Disk>(
     bytes: Vec<u8>,
     ends: &Option<Vec<usize>>,
 ) -> Result<(Place, Loaded), Stop>
-    ensures { IfOk result (λ f. IsReadTo subject.now.url_bytes
+    ensures { IfOk result (λ f. IsReadTo subject.now.reading
         (within_base subject.now.has_base (place_in subject.now.place)) bytes.items
         (widths_in ends.now) f.1) }
 {
     let alloc = host.alloc();
     say_used(host, how, subject, "inline map")?;
-    let base = inline_base(alloc, &subject.place.script)?;
+    let base = own_url(alloc, &subject.place.script)?;
     let mut own = copied(alloc, &subject.place)?;
     own.base = given_base(alloc, subject, base)?;
-    let loaded = loaded_from(alloc, &bytes, &own.base, subject.url_bytes, false)?;
+    let loaded = loaded_from(alloc, &bytes, &own.base, subject.reading, false)?;
     Ok((own, ended(alloc, loaded, ends)?))
 }
 
@@ -145,13 +146,13 @@ fn itself_loaded<E: Eprint + AllocGlobal, D: Disk>(
     text: Vec<u8>,
 ) -> Result<Option<(Place, Loaded)>, Stop>
     ensures { IfOk result (λ found. MatchOption found (IsSome (folder_of subject.now.root))
-        (λ f. IsRead subject.now.url_bytes subject.now.place.base.items text.items f.1)) }
+        (λ f. IsRead subject.now.reading subject.now.place.base.items text.items f.1)) }
 {
     let alloc = host.alloc();
     if subject.root.is_some() {
         return left_out(host, how, subject, "names no map");
     }
-    let loaded = loaded_from(alloc, &text, &subject.place.base, subject.url_bytes, true)?;
+    let loaded = loaded_from(alloc, &text, &subject.place.base, subject.reading, true)?;
     Ok(Some((copied(alloc, &subject.place)?, loaded)))
 }
 
@@ -164,7 +165,7 @@ fn beside_loaded<E: Eprint + AllocGlobal, D: Disk>(
     found: Place,
     ends: &Option<Vec<usize>>,
 ) -> Result<(Place, Loaded), Stop>
-    ensures found { IfOk result (λ f. IsMadeOf (IsLoadedTo subject.now.url_bytes (widths_in ends.now))
+    ensures found { IfOk result (λ f. IsMadeOf (IsLoadedTo subject.now.reading (widths_in ends.now))
         (D.held store.old.disk.now)
         (with_base subject.now.has_base subject.now.place.base.items (place_in found)) f.1) }
     ensures held { D.held store.new.disk.now ≡ D.held store.old.disk.now }
@@ -209,7 +210,7 @@ fn map_of_script<E: Eprint + AllocGlobal, D: Disk>(
         ≡ spec.ends_of (folder_of subject.now.root) subject.now.place.file.items text.items }
     ensures reached { IfOk result (λ found. MatchOption found
         (IsLeftOut (D.held store.old.disk.now) (folder_of subject.now.root) (place_in subject.now.place))
-        (λ f. IsFollowedUp subject.now.url_bytes (D.held store.old.disk.now) (folder_of subject.now.root)
+        (λ f. IsFollowedUp subject.now.reading (D.held store.old.disk.now) (folder_of subject.now.root)
         subject.now.has_base (place_in subject.now.place) f.1)) }
     ensures held { D.held store.new.disk.now ≡ D.held store.old.disk.now }
 {
@@ -235,7 +236,7 @@ fn open_found<D: Disk>(
     found: Place,
     ends: &Option<Vec<usize>>,
 ) -> Result<(Place, Loaded), Stop>
-    ensures found { IfOk result (λ f. IsMadeOf (IsLoadedTo subject.now.url_bytes (widths_in ends.now))
+    ensures found { IfOk result (λ f. IsMadeOf (IsLoadedTo subject.now.reading (widths_in ends.now))
         (D.held store.old.disk.now)
         (with_base subject.now.has_base subject.now.place.base.items (place_in found)) f.1) }
     ensures held { D.held store.new.disk.now ≡ D.held store.old.disk.now }
@@ -245,7 +246,7 @@ fn open_found<D: Disk>(
         file: found.file,
         base: given_base(alloc, subject, found.base)?,
     };
-    let loaded = store.open_map(alloc, &found, subject.url_bytes)?;
+    let loaded = store.open_map(alloc, &found, subject.reading)?;
     Ok((found, ended(alloc, loaded, ends)?))
 }
 
@@ -274,11 +275,16 @@ fn map_in<E: Eprint + AllocGlobal, D: Disk>(
     worst: &mut u8,
 ) -> Result<Option<SourceMap>, Stop>
     ensures found { IfOk result (λ found. MatchOption found
-        ((why : MapFault) × ((loaded ≡ Loaded.Broken why) × (0 < worst.new))) (λ m. loaded ≡ Loaded.Map m)) }
+        ((why : MapFault) × ((loaded ≡ Loaded.Broken why) × (0 < worst.new)))
+        (λ m. (loaded ≡ Loaded.Map m) ⊎ ((why : MapFault) × (loaded ≡ Loaded.Mended m why)))) }
     ensures worst { worst.old ≤ worst.new }
 {
     match loaded {
         Loaded::Map(map) => Ok(Some(map)),
+        Loaded::Mended(map, why) => {
+            say_mended(host, place, &why)?;
+            Ok(Some(map))
+        }
         Loaded::Broken(fault) => {
             let status = say_fault(host, place, &fault)?;
             *worst = (*worst).max(status);
@@ -298,7 +304,7 @@ fn script_loaded<E: Eprint + AllocGlobal, D: Disk>(
     requires { IsHeld (D.held store.old.disk.now) subject.now.place.file.items text.items }
     ensures reached { IfOk result (λ found. MatchOption found
         (IsLeftOut (D.held store.old.disk.now) (folder_of subject.now.root) (place_in subject.now.place))
-        (λ f. IsFollowedUp subject.now.url_bytes (D.held store.old.disk.now) (folder_of subject.now.root)
+        (λ f. IsFollowedUp subject.now.reading (D.held store.old.disk.now) (folder_of subject.now.root)
         subject.now.has_base (place_in subject.now.place) f.1)) }
     ensures held { D.held store.new.disk.now ≡ D.held store.old.disk.now }
 {
@@ -313,10 +319,10 @@ fn itself_ended(
     bytes: &[u8],
     ends: &Option<Vec<usize>>,
 ) -> Result<Loaded, AllocError>
-    ensures { IfOk result (IsReadTo subject.now.url_bytes subject.now.place.base.items bytes.now
+    ensures { IfOk result (IsReadTo subject.now.reading subject.now.place.base.items bytes.now
         (widths_in ends.now)) }
 {
-    let loaded = loaded_from(alloc, bytes, &subject.place.base, subject.url_bytes, true)?;
+    let loaded = loaded_from(alloc, bytes, &subject.place.base, subject.reading, true)?;
     Ok(ended(alloc, loaded, ends)?)
 }
 
@@ -335,9 +341,9 @@ fn settle_content<E: Eprint + AllocGlobal, D: Disk>(
     requires ends { AreEnds (D.held store.old.disk.now) (folder_of subject.now.root)
         (place_in subject.now.place) (widths_in ends.now) }
     ensures settled { IfOk result (λ found. MatchOption found
-        (GivesNone subject.now.url_bytes (D.held store.old.disk.now) (folder_of subject.now.root)
+        (GivesNone subject.now.reading (D.held store.old.disk.now) (folder_of subject.now.root)
         subject.now.has_base (place_in subject.now.place) worst.new)
-        (IsOpened subject.now.url_bytes (D.held store.old.disk.now) (folder_of subject.now.root)
+        (IsOpened subject.now.reading (D.held store.old.disk.now) (folder_of subject.now.root)
         subject.now.has_base (place_in subject.now.place))) }
     ensures worst { worst.old ≤ worst.new }
     ensures held { D.held store.new.disk.now ≡ D.held store.old.disk.now }
@@ -376,7 +382,7 @@ fn script_beside<'a>(
         place,
         root: subject.root,
         has_base: subject.has_base,
-        url_bytes: subject.url_bytes,
+        reading: subject.reading,
     }))
 }
 
@@ -387,7 +393,7 @@ fn said_beside<E: Eprint + AllocGlobal, D: Disk>(
     how: How,
     subject: &Subject<'_>,
 ) -> Result<Beside, Stop>
-    ensures reached { IfOk result (λ said. IfSome said.named (λ f. IsReached subject.now.url_bytes
+    ensures reached { IfOk result (λ said. IfSome said.named (λ f. IsReached subject.now.reading
         (D.held store.old.disk.now) (folder_of subject.now.root) subject.now.has_base
         (place_in subject.now.place) f.1)) }
     ensures ends { IfOk result (λ said. AreEnds (D.held store.old.disk.now) (folder_of subject.now.root)
@@ -432,9 +438,9 @@ pub fn open_map_of<E: Eprint + AllocGlobal, D: Disk>(
     worst: &mut u8,
 ) -> Result<Option<SourceMap>, Stop>
     ensures settled { IfOk result (λ found. MatchOption found
-        (GivesNone subject.now.url_bytes (D.held store.old.disk.now) (folder_of subject.now.root)
+        (GivesNone subject.now.reading (D.held store.old.disk.now) (folder_of subject.now.root)
         subject.now.has_base (place_in subject.now.place) worst.new)
-        (IsOpened subject.now.url_bytes (D.held store.old.disk.now) (folder_of subject.now.root)
+        (IsOpened subject.now.reading (D.held store.old.disk.now) (folder_of subject.now.root)
         subject.now.has_base (place_in subject.now.place))) }
     ensures worst { worst.old ≤ worst.new }
     ensures held { D.held store.new.disk.now ≡ D.held store.old.disk.now }

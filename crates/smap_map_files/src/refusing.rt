@@ -19,15 +19,6 @@ pub fn printable_lines(alloc: Global, text: &str) -> Result<String, AllocError> 
     Ok(lines)
 }
 
-/// What `clap` says, which may hold words as they were given.
-fn refusal<E: Eprint + AllocGlobal, D: Disk>(
-    host: &Host<'_, E, D>,
-    fault: &OptionFault<'_>,
-) -> Result<String, AllocError> {
-    let text = option_message(host.alloc(), fault)?;
-    printable_lines(host.alloc(), text.as_str())
-}
-
 /// Says what is wrong with the options of a command line, with status 2: what `clap` says as it says it, or
 /// which value isn't what its option takes.
 pub fn refuse_options<E: Eprint + AllocGlobal, D: Disk>(
@@ -35,10 +26,16 @@ pub fn refuse_options<E: Eprint + AllocGlobal, D: Disk>(
     fault: &OptionFault<'_>,
 ) -> Stop {
     match fault {
-        OptionFault::Refused(_) => match refusal(host, fault) {
-            Ok(text) => host.fail_with_help(text.as_str()),
-            Err(_) => Stop::Memory,
-        },
+        OptionFault::Refused(_) => {
+            // it may hold words as they were given
+            let Ok(text) = option_message(host.alloc(), fault) else {
+                return Stop::Memory;
+            };
+            match printable_lines(host.alloc(), text.as_str()) {
+                Ok(text) => host.fail_with_help(text.as_str()),
+                Err(_) => Stop::Memory,
+            }
+        }
         OptionFault::Value { .. } => host.fail_words(option_message(host.alloc(), fault), None),
         OptionFault::Memory => Stop::Memory,
     }

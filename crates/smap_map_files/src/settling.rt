@@ -121,21 +121,6 @@ fn decide(alloc: Global, places: &[Place], origins: &[Origin]) -> Result<Decided
     Ok(Decided { kept, repeated })
 }
 
-fn say_repeated<E: Eprint + AllocGlobal, D: Disk>(
-    host: &Host<'_, E, D>,
-    place: &Place,
-) -> Result<(), Stop>
-    ensures { IfErr result (λ s. s ≡ Stop.Memory) }
-{
-    let alloc = host.alloc();
-    let file = printable(alloc, &place.file)?;
-    let script = printable(alloc, &place.script)?;
-    let (file, script) = (file.as_str(), script.as_str());
-    let text = format!(in alloc; "{file} ({script}): script repeated")?;
-    host.say(text.as_str());
-    Ok(())
-}
-
 /// Says which places have a script that another has.
 fn say_all_repeated<E: Eprint + AllocGlobal, D: Disk>(
     host: &Host<'_, E, D>,
@@ -144,10 +129,16 @@ fn say_all_repeated<E: Eprint + AllocGlobal, D: Disk>(
 ) -> Result<(), Stop>
     ensures { IfErr result (λ s. s ≡ Stop.Memory) }
 {
+    let alloc = host.alloc();
     for number in numbers {
-        if let Some(place) = places.get(*number) {
-            say_repeated(host, place)?;
-        }
+        let Some(place) = places.get(*number) else {
+            continue;
+        };
+        let file = printable(alloc, &place.file)?;
+        let script = printable(alloc, &place.script)?;
+        let (file, script) = (file.as_str(), script.as_str());
+        let text = format!(in alloc; "{file} ({script}): script repeated")?;
+        host.say(text.as_str());
     }
     Ok(())
 }

@@ -3,9 +3,10 @@ ghost use Rattle.std.specs.Prelude.{◌<◌, IfOk};
 
 use crate::loading::MapFault;
 use crate::opening::{How, Subject};
+use crate::wanted::may_name_map;
 use smap_link::{FileKind, file_kind};
 use smap_map_choice::Place;
-use smap_record::{Fault, Kind};
+use smap_record::Kind;
 use smap_system::{Disk, Host, Stop, printable};
 use std::alloc::{AllocError, Global};
 
@@ -22,26 +23,6 @@ pub(crate) fn say_of<E: Eprint + AllocGlobal, D: Disk>(
     let text = format!(in alloc; "{file} ({script}){what}")?;
     host.say(text.as_str());
     Ok(())
-}
-
-/// What a file is instead of a map, by its name, if its text doesn't show more.
-fn kind_hint(fault: &Fault, detail: &str, file: &[u8]) -> &'static str {
-    if fault.kind != Kind::Json || !detail.is_empty() {
-        return "";
-    }
-    match file_kind(file) {
-        FileKind::Script => " (it is a script, which names no map)",
-        FileKind::StyleSheet => " (it is a style sheet, which names no map)",
-        FileKind::Map | FileKind::Other => "",
-    }
-}
-
-/// What a file is that names its map.
-fn kind_word(file: &[u8]) -> &'static str {
-    match file_kind(file) {
-        FileKind::StyleSheet => "style sheet",
-        FileKind::Script | FileKind::Map | FileKind::Other => "script",
-    }
 }
 
 /// What is wrong with a map in words, and the status of that.
@@ -69,7 +50,12 @@ fn words_of(alloc: Global, place: &Place, fault: &MapFault) -> Result<(String, u
         }
         MapFault::Refused(fault, detail) => {
             let detail = detail.as_str();
-            let kind = kind_hint(fault, detail, &place.file);
+            let is_other = fault.kind == Kind::Json && detail.is_empty();
+            let kind = match file_kind(&place.file) {
+                FileKind::Script if is_other => " (it is a script, which names no map)",
+                FileKind::StyleSheet if is_other => " (it is a style sheet, which names no map)",
+                _ => "",
+            };
             Ok((format!(in alloc; "{fault}{detail}{kind}")?, 1))
         }
         MapFault::UrlBytes(most) => {
@@ -98,6 +84,27 @@ pub(crate) fn say_fault<E: Eprint + AllocGlobal, D: Disk>(
     Ok(status)
 }
 
+/// Names a map whose mended text is read, and the command that mends its file.
+pub(crate) fn say_mended<E: Eprint + AllocGlobal, D: Disk>(
+    host: &Host<'_, E, D>,
+    place: &Place,
+    fault: &MapFault,
+) -> Result<(), Stop> {
+    let alloc = host.alloc();
+    let (words, _) = words_of(alloc, place, fault)?;
+    let words = words.as_str();
+    if may_name_map(&place.file) {
+        let text = format!(in alloc; ": {words}; its mended text is used")?;
+        return say_of(host, place, text.as_str());
+    }
+    let file = printable(alloc, &place.file)?;
+    let file = file.as_str();
+    let text = format!(in alloc;
+        ": {words}; its mended text is used, and smap-maps repair --write {file} mends the file"
+    )?;
+    say_of(host, place, text.as_str())
+}
+
 /// Says which map of a script is used.
 pub(crate) fn say_used<E: Eprint + AllocGlobal, D: Disk>(
     host: &Host<'_, E, D>,
@@ -107,7 +114,10 @@ pub(crate) fn say_used<E: Eprint + AllocGlobal, D: Disk>(
 ) -> Result<(), Stop> {
     let alloc = host.alloc();
     if subject.root.is_none() {
-        let kind = kind_word(&subject.place.file);
+        let kind = match file_kind(&subject.place.file) {
+            FileKind::StyleSheet => "style sheet",
+            FileKind::Script | FileKind::Map | FileKind::Other => "script",
+        };
         let text = format!(in alloc; " is a {kind}: its {which} is used")?;
         return say_of(host, &subject.place, text.as_str());
     }

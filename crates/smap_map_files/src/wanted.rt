@@ -4,6 +4,7 @@ ghost use Rattle.smap_map_files.specs.Lists.{lists_of, no_lists};
 ghost use Rattle.smap_map_files.specs.Positions as spec_positions;
 ghost use Rattle.smap_map_files.specs.WantedView as spec;
 
+use crate::loading::Reading;
 use smap_link::{FileKind, file_kind};
 use smap_map_choice::Place;
 use std::alloc::Global;
@@ -53,8 +54,8 @@ pub struct Wanted<'a> {
     pub roots: Vec<Root>,
     pub logs: Vec<&'a str>,
     pub positions: Positions<'a>,
-    /// How many bytes the URLs of a map's sources may take: none, until that is said.
-    pub url_bytes: usize,
+    /// How the texts of the maps are read: with no bytes for the URLs of sources, until more is said.
+    pub reading: Reading,
 }
 
 impl<'a> Wanted<'a> {
@@ -75,7 +76,10 @@ impl<'a> Wanted<'a> {
                 scripts: Vec::new(alloc),
                 words: Vec::new(alloc),
             },
-            url_bytes: 0,
+            reading: Reading {
+                url_bytes: 0,
+                mends: false,
+            },
         }
     }
 

@@ -15,18 +15,12 @@ fn real_path<D: Disk>(alloc: Global, disk: &D, path: &str) -> Result<Option<Stri
     }
 }
 
-/// Whether a path is that of a folder, a slash, and anything after it.
-fn continues(folder: &[u8], path: &[u8]) -> bool
-    ensures { result ≡ spec.continues folder.now path.now }
-{
-    path.starts_with(folder) && path[folder.len()..].starts_with(b"/")
-}
-
 /// Whether an absolute path is below that of a folder.
-fn is_below(folder: &str, path: &str) -> bool
+fn is_below(folder: &[u8], path: &[u8]) -> bool
     ensures { result ≡ spec.is_below folder.now path.now }
 {
-    folder == "/" || continues(folder.as_bytes(), path.as_bytes())
+    folder == b"/".as_slice()
+        || (path.starts_with(folder) && path[folder.len()..].starts_with(b"/"))
 }
 
 /// Whether a file stands in a folder or below it once links are followed. The folder's path is empty for the
@@ -46,7 +40,7 @@ pub fn is_within<D: Disk>(
         return Ok(false);
     };
     match real_path(alloc, disk, file)? {
-        Some(file) => Ok(is_below(folder.as_str(), file.as_str())),
+        Some(file) => Ok(is_below(folder.as_bytes(), file.as_bytes())),
         None => Ok(false),
     }
 }

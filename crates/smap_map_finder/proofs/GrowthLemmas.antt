@@ -5,6 +5,7 @@ use Rattle.std.proofs.Common.{Option, None, Some, Result, Ok, Err, IfNone, IfOk,
 use Rattle.std.proofs.Common.{option_map, sym}
 use Rattle.std.specs.List.{All, Contains}
 use Rattle.std.proofs.lemmas.List.Elements.{All-contains}
+use Rattle.smap_map_files.specs.declared.loading.Reading.{Reading}
 use Rattle.smap_map_files.specs.declared.wanted.Wanted.{Wanted}
 use Rattle.smap_system.specs.Held.{Held}
 use Rattle.smap_map_choice.specs.declared.picks.Found.{Found}
@@ -25,11 +26,11 @@ use Rattle.smap_map_finder.specs.ChosenView.{IsFind, IsServedBy, IsSettledIn, Is
 use Rattle.smap_map_finder.specs.declared.chosen.End.{End}
 use Rattle.smap_map_finder.specs.declared.chosen.Opening.{Opening}
 
-refused_worse : (most : ℕ) (held : Held) (root : Option Folder) (has_base : Bool) (place : MapPlace)
-    (worst worse : ℕ) → worst ≤ worse → GivesNone most held root has_base place worst
-    → GivesNone most held root has_base place worse
-refused_worse most held root has_base place worst worse le (inl out) = inl out
-refused_worse most held root has_base place worst worse le (inr refused) =
+refused_worse : (how : Reading) (held : Held) (root : Option Folder) (has_base : Bool) (place : MapPlace)
+    (worst worse : ℕ) → worst ≤ worse → GivesNone how held root has_base place worst
+    → GivesNone how held root has_base place worse
+refused_worse how held root has_base place worst worse le (inl out) = inl out
+refused_worse how held root has_base place worst worse le (inr refused) =
     let bad = refused.is_bad in
     inr (record { is_bad = omega (arith, le, bad); why = refused.why; reached = refused.reached })
 
@@ -38,7 +39,7 @@ pub unopened_worse : (held : Held) (w : Wanted) (name : List ℕ) (found : Found
 unopened_worse held w name found worst worse le (inl none) = inl none
 unopened_worse held w name found worst worse le (inr (place, is, gives)) =
     let none =
-    refused_worse w.url_bytes held (root_of w found) (has_base w found) place worst worse le gives in
+    refused_worse w.reading held (root_of w found) (has_base w found) place worst worse le gives in
     inr (place, is, none)
 
 -- what became of opening the map of what a name has

@@ -364,13 +364,13 @@ opening_name w name Missing = name
 pub record IsOpenedAs (held : Held) (w : Wanted) (name : List ℕ) (found : Found) (m : ReadMap) : Type 0 where
   pub place : MapPlace
   pub is_place : found_place (places_of w) (files_of w) name found ≡ Some place
-  pub opened : IsOpened w.url_bytes held (root_of w found) (has_base w found) place m
+  pub opened : IsOpened w.reading held (root_of w found) (has_base w found) place m
 
 -- None was opened by this name for this, and so much is the worst since: it has no place, or that gives none.
 abbrev pub IsUnopened : Held → Wanted → List ℕ → Found → ℕ → Type 0
 IsUnopened held w name found worst = (found_place (places_of w) (files_of w) name found ≡ None)
     ⊎ ((place : MapPlace) × (found_place (places_of w) (files_of w) name found ≡ Some place)
-    × GivesNone w.url_bytes held (root_of w found) (has_base w found) place worst)
+    × GivesNone w.reading held (root_of w found) (has_base w found) place worst)
 
 -- The map of what a name of a log has.
 abbrev pub IsOpenedFor : Held → Wanted → List ℕ → Found → ReadMap → Type 0

@@ -103,7 +103,7 @@ impl<E: Eprint + AllocGlobal, D: Disk> Search<'_, E, D> {
             place,
             root: root_of(wanted, pick.found),
             has_base: has_base(wanted, pick.found),
-            url_bytes: wanted.url_bytes,
+            reading: wanted.reading,
         };
         open_map_of(self.host, store, self.how, &subject, worst)
     }

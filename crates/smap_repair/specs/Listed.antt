@@ -1,13 +1,12 @@
 -- The closed list of repairs: which bytes of a text may become which. This project's own.
 use Rattle.std.specs.Prelude.{ℕ, ◌==◌, ◌&&◌, ◌||◌, Bool, nat_eq, nat_lt, List, [], ◌∷◌, length, drop, codes}
-use Rattle.std.specs.Prelude.{bytes_eq, Option, option_map, option_and_then, is_some}
+use Rattle.std.specs.Prelude.{bytes_eq, false, None, Option, Some, option_and_then}
 use Rattle.std.specs.List.{starts_with, ends_with, list_all}
-use Rattle.std.specs.Option.{option_eq}
 use Rattle.url.specs.Input.{is_empty}
-use Rattle.percent_encoding.specs.Percent.{percent_decode}
 use Rattle.serde_json.specs.Find.{as_str}
 use Rattle.serde_json.specs.Read.{read}
 use Rattle.smap_repair.specs.Halves.{is_alone}
+use Rattle.smap_repair.specs.Hosts.{same_but_hosts}
 use Rattle.smap_repair.specs.declared.repair.Change.{Change}
 use Rattle.smap_repair.specs.declared.repair.Change.TheVariants as change
 
@@ -28,13 +27,14 @@ is_odd_three text = bytes_eq text (codes "\"3\"") || is_three_point text
 abbrev pub string_in : List ℕ → Option (List ℕ)
 string_in text = option_and_then as_str (read text)
 
--- the bytes of the string that a JSON text is, once its percent escapes are undone
-abbrev pub decoded : List ℕ → Option (List ℕ)
-decoded text = option_map percent_decode (string_in text)
+abbrev pub is_respelled_as : Option (List ℕ) → Option (List ℕ) → Bool
+is_respelled_as None o = false
+is_respelled_as (Some one) None = false
+is_respelled_as (Some one) (Some other) = same_but_hosts one other
 
--- Both are JSON strings, and the same but for percent escapes.
+-- Both are JSON strings, and the same but for percent escapes in their hosts.
 abbrev pub is_respelled : List ℕ → List ℕ → Bool
-is_respelled before after = is_some (decoded before) && option_eq bytes_eq (decoded before) (decoded after)
+is_respelled before after = is_respelled_as (string_in before) (string_in after)
 
 -- empty mappings are added, as the first member of an object or in place of a null
 abbrev pub adds_mappings : List ℕ → List ℕ → List ℕ → Bool

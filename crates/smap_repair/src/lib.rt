@@ -10,10 +10,12 @@
 mod decoding;
 mod edits;
 mod halves;
+mod hosts;
 mod listed;
 mod lone;
 mod maps;
 mod mark;
+mod members;
 mod mending;
 mod places;
 mod repair;

@@ -1,6 +1,7 @@
 //! A byte order mark before a text.
 ghost use Rattle.std.specs.Prelude.{◌≡◌, true, IfOk};
 ghost use Rattle.smap_repair.specs.Leading.{Leads};
+ghost use Rattle.smap_repair.specs.Members.{AreOfText};
 ghost use Rattle.smap_repair.specs.Unmarking.{IsRemoval, IsUnmarked, is_marked};
 
 use crate::mending::Mended;
@@ -27,6 +28,7 @@ fn removal(alloc: Global) -> Result<Repair, AllocError>
 /// The text without a mark at its front.
 pub(crate) fn without_mark(alloc: Global, text: &[u8]) -> Result<Mended, AllocError>
     ensures leads { IfOk result (λ m. Leads m.repairs.items text.now m.text.items) }
+    ensures of_text { IfOk result (λ m. AreOfText m.repairs.items) }
     ensures removed { IfOk result
         (λ m. is_marked text.now ≡ true → IsUnmarked text.now m.text.items m.repairs.items) }
 {

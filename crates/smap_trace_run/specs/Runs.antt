@@ -107,13 +107,15 @@ pub record IsJobOf (asked : TraceWords) (job : Job) : Type 0 where
   pub context : job.style.context ≡ number asked.options (codes "context")
   pub prefixes : pairs_of job.style.prefixes.now ≡ prefixes_of asked.prefixes.items
 
--- These are the maps and logs that the arguments of these words name, one map for each script, and the URLs
--- of a map's sources may take as many bytes as the words say; and it is clear what positions are meant.
+-- These are the maps and logs that the arguments of these words name, one map for each script; the URLs of
+-- a map's sources may take as many bytes as the words say, and maps that are refused are mended unless these
+-- are strict; and it is clear what positions are meant.
 pub record AreFound (told : Told) (held : Held) (asked : TraceWords) (wanted : Wanted) : Type 0 where
   pub named : Wanted
   pub names : NamesAll told held asked.arguments.items no_lists (lists_of named)
   pub settled : IsSettled named wanted
-  pub url_bytes : wanted.url_bytes ≡ url_bytes asked.options
+  pub url_bytes : wanted.reading.url_bytes ≡ url_bytes asked.options
+  pub mends : wanted.reading.mends ≡ not (has asked.options (codes "strict"))
   pub clear : AreClear wanted
 
 -- What is wanted was translated and written by a run that does what these words ask for, and came to its end

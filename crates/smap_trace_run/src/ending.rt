@@ -233,8 +233,8 @@ impl<E: Eprint + AllocGlobal, D: Disk> Run<'_, E, D> {
         Ok(!self.is_of_another_build()?)
     }
 
-    /// Says in one line what wasn't translated, and why, unless that isn't wanted, or it was said at the
-    /// beginning that the log can't be read as it is.
+    /// Says in one line what wasn't translated, and why, unless that isn't wanted, or it was said before:
+    /// that the log can't be read as it is, or, where nothing was translated, that a map is refused.
     pub(crate) fn say_end(&mut self) -> Result<(), Stop> {
         if self.job.quiet || self.start.is_hinted || self.tally.lines == 0 {
             return Ok(());
@@ -242,6 +242,9 @@ impl<E: Eprint + AllocGlobal, D: Disk> Run<'_, E, D> {
         self.count_frames()?;
         say_mismatches(self.host, &self.finder, &self.frames.used)?;
         if self.is_unmapped()? {
+            if self.status() != 0 {
+                return Ok(());
+            }
             let log = LogForm {
                 anywhere: self.job.anywhere,
                 is_escaped: self.start.is_escaped,

@@ -16,7 +16,7 @@ use crate::output::Output;
 use crate::tracing::{Job, Run, with_controls};
 use smap_command_line::trace::{Asked, HELP, TraceWords, WordFault, message, trace_words};
 use smap_command_line::{Options, Pair, VERSION};
-use smap_map_files::{Wanted, check_positions, log_of, refuse_options, settle, wanted_by};
+use smap_map_files::{Reading, Wanted, check_positions, log_of, refuse_options, settle, wanted_by};
 use smap_map_finder::How;
 use smap_system::{Beside, Disk, Host, Kind, Stop, create_beside};
 use smap_trace::MatchMode;
@@ -85,8 +85,8 @@ impl<E: Eprint + AllocGlobal, D: Disk> Run<'_, E, D> {
         self.follow_log(log.as_slice(), output)
     }
 
-    /// Ends a run whose logs were translated, if they were: says what was not translated, unless a map was
-    /// refused. Answers the status: the greatest of a map that was refused, unless broken maps are skipped.
+    /// Ends a run whose logs were translated, if they were: says what was not translated. Answers the status:
+    /// the greatest of a map that was refused, unless broken maps are skipped.
     fn end(&mut self, answer: Result<(), Stop>) -> Result<u8, Stop>
         ensures { IfOk result (λ status. IsOk answer
             × status ≡ cond self.old.job.how.skip 0 self.old.chosen.worst) }
@@ -94,9 +94,7 @@ impl<E: Eprint + AllocGlobal, D: Disk> Run<'_, E, D> {
         answer?;
         let status = self.status();
         self.finder.tell_count()?;
-        if status == 0 {
-            self.say_end()?;
-        }
+        self.say_end()?;
         Ok(status)
     }
 
@@ -269,7 +267,10 @@ fn found<'a, E: Eprint + AllocGlobal, D: Disk>(
 {
     let mut wanted = wanted_by(host, &asked.arguments)?;
     settle(host, skips(&asked.options), &mut wanted)?;
-    wanted.url_bytes = asked.options.url_bytes();
+    wanted.reading = Reading {
+        url_bytes: asked.options.url_bytes(),
+        mends: !asked.options.has("strict"),
+    };
     if wanted.is_empty() && !asked.options.has("list") {
         return Err(host.fail(
             2,

@@ -9,7 +9,6 @@
 mod budget;
 mod files;
 mod folders;
-mod links;
 mod loading;
 mod page;
 mod program;

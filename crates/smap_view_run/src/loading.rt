@@ -1,11 +1,10 @@
 //! A map and its script, read.
 use crate::files::{read_named, text_of};
-use crate::links::{Link, link_of};
 use crate::refusals::place_of;
 use crate::scripts::script_of;
 use serde_json::Value;
 use smap_link::{FileKind, file_kind, script_url};
-use smap_map_files::{Home, MapText, folder_url, is_within};
+use smap_map_files::{Home, LinkProblem, MapText, ScriptMap, folder_url, is_within, map_of};
 use smap_record::{Base, BaseFault, Fault, Limits, ReadError, SourceMap};
 use smap_system::{Disk, Host, Stop, parted};
 
@@ -224,18 +223,40 @@ fn found_in<E: Eprint + AllocGlobal, D: Disk>(
     })
 }
 
-/// Says that a script has no map.
+/// Says that a script has no map; what it names can't be had if there is a problem.
 fn fail_alone<E: Eprint + AllocGlobal, D: Disk>(
     host: &Host<'_, E, D>,
     path: &str,
-    what: &str,
+    problem: Option<LinkProblem>,
 ) -> Stop {
+    let what = match problem {
+        Some(_) => "the map that it names isn't here",
+        None => "it names no map",
+    };
     match format!(in host.alloc();
         "{path}: {what}, and none lies beside it: smap-view MAP SCRIPT names both"
     ) {
         Ok(text) => host.fail(2, text.as_str()),
         Err(_) => Stop::Memory,
     }
+}
+
+/// The map of a script, unless that lies next to it and is a link to elsewhere: a page may be handed on, so
+/// it holds nothing from there.
+fn own_map<E: Eprint + AllocGlobal, D: Disk>(
+    host: &Host<'_, E, D>,
+    home: Home<'_>,
+    map: ScriptMap,
+) -> Result<ScriptMap, Stop> {
+    let ScriptMap::Beside(name) = map else {
+        return Ok(map);
+    };
+    let (alloc, folder, file) = (host.alloc(), home.path, name.as_str());
+    let path = format!(in alloc; "{folder}{file}")?;
+    if is_within(alloc, host.disk, folder, path.as_str())? {
+        return Ok(ScriptMap::Beside(name));
+    }
+    Ok(ScriptMap::Nothing)
 }
 
 /// What a script holds. Nobody has named one that was found in a folder, so a link that leads out of it isn't
@@ -265,21 +286,18 @@ fn load_script<E: Eprint + AllocGlobal, D: Disk>(
     let folder = home.path;
     let path = format!(in alloc; "{folder}{name}")?;
     let bytes = read_script(host, home, path.as_str(), found)?;
-    let map = match link_of(alloc, host.disk, home, name, &bytes)? {
-        Link::File(map) => found_in(host, home, map.as_str())?,
-        Link::Inline(map) => Found {
+    let (map, problem) = map_of(alloc, host.disk, home, name, &bytes)?;
+    let map = match own_map(host, home, map)? {
+        ScriptMap::Named(map) | ScriptMap::Beside(map) => found_in(host, home, map.as_str())?,
+        ScriptMap::Inline(map) => Found {
             path: String::from_str(alloc, path.as_str())?,
             name: String::from_str(alloc, parted(name).1)?,
             url: file_url_of(host, home.url, name)?,
             bytes: map,
             is_file: false,
         },
-        Link::Nothing | Link::Broken if found => return Ok(None),
-        Link::Nothing => return Err(fail_alone(host, path.as_str(), "it names no map")),
-        Link::Broken => {
-            let what = "the map that it names isn't here";
-            return Err(fail_alone(host, path.as_str(), what));
-        }
+        ScriptMap::Nothing if found => return Ok(None),
+        ScriptMap::Nothing => return Err(fail_alone(host, path.as_str(), problem)),
     };
     let script = Some(Script { path, bytes });
     Ok(Some(load_found(host, map, reading.url_bytes, script, None)?))

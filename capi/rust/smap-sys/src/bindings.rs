@@ -56,6 +56,10 @@ pub const SMAP_DROPPED: u32 = 2;
 pub const SMAP_HIDE_IGNORED: u32 = 1;
 pub const SMAP_ANYWHERE: u32 = 2;
 pub const SMAP_IGNORE_QUERY: u32 = 4;
+pub const SMAP_FILE_OTHER: u32 = 0;
+pub const SMAP_FILE_SCRIPT: u32 = 1;
+pub const SMAP_FILE_STYLE_SHEET: u32 = 2;
+pub const SMAP_FILE_MAP: u32 = 3;
 pub const SMAP_NAMED_UNSAID: u32 = 0;
 pub const SMAP_NAMED_NOTHING: u32 = 1;
 pub const SMAP_NAMED_INLINE: u32 = 2;
@@ -271,9 +275,14 @@ extern "C" {
         folder: *const c_char, folder_len: usize, url: *const c_char, url_len: usize,
         out: *mut smap_bytes,
     ) -> u32;
+    pub fn smap_file_kind(name: *const c_char, len: usize) -> u32;
     pub fn smap_named_map(
         folder: *const c_char, folder_len: usize, name: *const c_char, name_len: usize,
         text: *const c_void, len: usize, out: *mut smap_bytes, kind: *mut u32,
+    ) -> u32;
+    pub fn smap_script_map(
+        folder: *const c_char, folder_len: usize, name: *const c_char, name_len: usize,
+        text: *const c_void, len: usize, tried: usize, out: *mut smap_bytes, kind: *mut u32,
     ) -> u32;
     pub fn smap_normal_form(
         name: *const c_char, len: usize, with_query: bool, out: *mut smap_bytes,

@@ -1,5 +1,5 @@
 use Rattle.std.proofs.Common.{Ok, Some}
-use Rattle.smap_c.specs.Links.{form_of}
+use Rattle.smap_c_answers.specs.Answers.{form_of}
 use Rattle.smap_c.proofs.links.smap_normal_form.Goals as goal
 
 pub returns : goal.returns

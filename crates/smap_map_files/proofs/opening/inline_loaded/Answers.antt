@@ -14,5 +14,5 @@ returns g c =
       c.in_ok-base.ensures,
       c.deref.ensures.value,
     ) at c.in_ok-loaded.ensures in
-    read_to subject.url_bytes (within_base subject.has_base (place_in subject.place)) c.args.bytes.items
+    read_to subject.reading (within_base subject.has_base (place_in subject.place)) c.args.bytes.items
     (widths_in c.args.ends.now) c.in_ok-loaded.loaded c.in_ok-ended.field-0 read c.in_ok-ended.ensures

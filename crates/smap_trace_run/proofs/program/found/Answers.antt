@@ -1,3 +1,4 @@
+use Rattle.std.proofs.Common.{arith}
 use Rattle.smap_trace_run.proofs.program.found.Goals as goal
 
 pub returns : goal.returns
@@ -17,5 +18,6 @@ returns g c =
         positions = settled.positions;
       };
       url_bytes = c.url_bytes.ensures;
+      mends = grind (arith, c.has.ensures);
       clear = c.in_ok-check_lines.ensures;
     }

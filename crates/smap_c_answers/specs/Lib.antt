@@ -1,0 +1,7 @@
+pub mod Answers
+pub mod Codes
+pub mod FaultWords
+pub mod FileKinds
+pub mod Memory
+pub mod Named
+pub mod Strings
