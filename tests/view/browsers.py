@@ -70,10 +70,12 @@ class Browser:
         return self.driver.execute_script(script, *values)
 
     def wait(self, script, *values, seconds=20):
-        """Waits until a script gives something true."""
+        """Waits until a script gives something true, in a document that has been read to its end: one that
+        takes the place of another has none of its elements at first."""
         end = time.monotonic() + seconds
+        whole = f"if (document.readyState !== 'complete') return null;\n{script}"
         while True:
-            found = self.run(script, *values)
+            found = self.run(whole, *values)
             if found:
                 return found
             if time.monotonic() > end:
