@@ -23,7 +23,7 @@ smap-maps tidy: --base --absolute --relative --write --drop --diff --json --url-
 smap-maps flatten: --base --write --drop --diff --json --url-bytes --version --help
 smap-maps lint: --format --rule --min-mapped --url-bytes --version --help
 smap-maps repair: --base --write --url-bytes --version --help
-smap-view: --base --url-bytes --sizes --budget --version --help
+smap-view: --base --url-bytes --compare --sizes --budget --version --help
 '
 
 # What the values of options are: FILE, words to choose from, or what can't be completed. Written in the same
@@ -42,6 +42,7 @@ smap-maps --url-bytes:
 smap-view --base:
 smap-view --url-bytes:
 smap-view -o: FILE
+smap-view --compare: FILE
 smap-view --sizes: table tsv json
 smap-view --budget: FILE
 '

@@ -2,8 +2,9 @@
 
 /// What `--help` prints. It is printed on standard error where no argument is given.
 pub const HELP: &str = "\
-Usage: smap-view [--base URL] [--url-bytes N] [-o FILE] MAP|SCRIPT|FOLDER [SCRIPT] >page.html
-       smap-view [--base URL] [--url-bytes N] --sizes FORMAT [--budget FILE] MAP|SCRIPT|FOLDER [SCRIPT]
+Usage: smap-view [--base URL] [--url-bytes N] [--compare OLD] [-o FILE] MAP|SCRIPT|FOLDER [SCRIPT] >page.html
+       smap-view [--base URL] [--url-bytes N] [--compare OLD] --sizes FORMAT [--budget FILE]
+                 MAP|SCRIPT|FOLDER [SCRIPT]
 
 Writes an HTML page to look at a source map: the script beside its sources with each mapping coloured, and how
 many bytes of the script come from which source. The page holds all that it shows, and requests nothing.
@@ -17,6 +18,7 @@ many bytes of the script come from which source. The page holds all that it show
   --base URL      The map's URL is URL/ and its name, or its path below FOLDER, instead of its file: URL
   --url-bytes N   Refuse a map if the URLs of its sources take more than N bytes (default 67108864)
   -o FILE         Write the page to FILE, which changes only when all is written
+  --compare OLD   Show what grew and what shrank since OLD, the map, script or folder of another build
   --sizes FORMAT  Write no page, but the bytes and mappings of each source: table, tsv or json
   --budget FILE   Write no page, but fail where sources have more bytes than FILE allows
   -V, --version   Print the version

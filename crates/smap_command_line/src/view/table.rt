@@ -2,7 +2,7 @@
 use crate::rows::{FLAG, OptionOf, OptionRow, URL_BYTES, Value};
 
 /// The options, in the order in which the help lists them and values are looked at.
-pub const OPTIONS: [OptionRow; 5] = [
+pub const OPTIONS: [OptionRow; 6] = [
     OptionOf {
         name: "base",
         value: Value::Text,
@@ -21,6 +21,18 @@ pub const OPTIONS: [OptionRow; 5] = [
         value_name: "FILE",
         expected: "the name of a file",
         help: "Write the page to FILE, which changes only when all is written",
+        ..FLAG
+    },
+    OptionOf {
+        name: "compare",
+        value: Value::File,
+        value_name: "OLD",
+        expected: "a map, script or folder",
+        help: "Show what grew and what shrank since OLD, the map, script or folder of another build",
+        details: "A source is compared with the one of the same URL, for which OLD is taken to be where \
+                  MAP, SCRIPT or FOLDER is. The page then has areas by growth and a table of it, and \
+                  --sizes the bytes in OLD, those now and the growth of each source and folder, in all \
+                  scripts together, with the most growth first.",
         ..FLAG
     },
     OptionOf {
