@@ -1,15 +1,16 @@
 -- Sources that are numbered one by one.
 use Rattle.std.proofs.Common.{◌≡◌, ℕ, ◌<◌, List, [], ◌∷◌, ◌++◌, length, map, get_or, Option, refl, ◌∙◌, sym}
-use Rattle.std.proofs.Common.{true, false, not, arith, length-append, inl, inr}
-use Rattle.std.specs.Prelude.{option_map, string_bytes, String, string_eq}
+use Rattle.std.proofs.Common.{true, false, not, ap, arith, length-append, inl, inr}
+use Rattle.std.specs.Prelude.{Some, option_map, slice_get, string_bytes, String, string_eq, unwrap_or}
 use Rattle.std.specs.Option.{option_eq}
 use Rattle.std.specs.declared.alloc.Global.{Global}
 use Rattle.std.specs.List.{AllByRecursion, list_any, position_or_len}
 use Rattle.std.proofs.lemmas.Bool.{cases_lt}
 use Rattle.std.proofs.lemmas.List.{map-append, length-map, get_or-map, get_or_append_left, get_or_push}
+use Rattle.std.proofs.lemmas.List.{get_or_default}
 use Rattle.std.proofs.lemmas.List.Folds.{list_any_at, list_any_none}
 use Rattle.std.proofs.lemmas.List.Sums.{fails_before_first, passes_at_first, prefix_len-le-length}
-use Rattle.std.proofs.lemmas.Option.{unwrap_or-slice_get}
+use Rattle.std.proofs.lemmas.Option.{slice_get-get_or, unwrap_or-slice_get}
 use Rattle.indexmap.specs.IndexSet.{insert_key}
 use Rattle.smap_record.specs.declared.entry.SourceEntry.{SourceEntry}
 use Rattle.smap_record.specs.Record.{Entry, no_entry, same_entry, same_text}
@@ -17,7 +18,7 @@ use Rattle.smap_record.specs.Entries.{entry_of, same_key}
 use Rattle.smap_record.specs.Numbered.{entry_at, IsNumbered, Numbers}
 use Rattle.smap_record.proofs.DistinctLemmas.{distinct-push}
 use Rattle.smap_record.proofs.EqualLemmas.{same_entries, own_entry}
-use Rattle.smap_record.proofs.ListLemmas.{all_append, all_weaker}
+use Rattle.smap_record.proofs.ListLemmas.{all_append, all_at, all_weaker}
 
 -- ---- whether an entry is there
 
@@ -105,3 +106,43 @@ numbered-push old new e i ns h all = record {
     ← all.each_once,
   ) h.once;
 }
+
+-- ---- one of them is listed again
+
+numbers_again : (xs : List SourceEntry) (n : ℕ) → n < length xs → Numbers xs (entry_at xs n) xs n
+numbers_again xs n within =
+    let e = entry_at xs n in
+    let there : n < length (map entry_of xs) = omega (arith, within, length-map xs entry_of) in
+    let same : get_or (map entry_of xs) n e ≡ e =
+    get_or_default (map entry_of xs) n e no_entry there ∙ sym (entry_at_is xs n) in
+    let is : list_any (same_entry e) (map entry_of xs) ≡ true =
+    list_any_at (same_entry e) (map entry_of xs) n e there (rw same (own_entry e)) in
+    record {
+      kept = λ k below. refl;
+      longer = λ k below. below;
+      at = refl;
+      within = within;
+      once = rw is refl;
+    }
+
+listed_within : (xs : List SourceEntry) (ns : List ℕ) (i n : ℕ) → i < length ns → n ≡ get_or ns i n
+    → IsNumbered xs ns → n < length xs
+listed_within xs ns i n below e all = all_at (λ k. k < length xs) ns i n all.within
+    (slice_get-get_or ns i n below ∙ ap Some (sym e))
+
+pub numbered_again : (xs : List SourceEntry) (ns : List ℕ) (i n : ℕ) → i < length (map (entry_at xs) ns)
+    → n ≡ get_or ns i n → IsNumbered xs ns → IsNumbered xs (ns ++ n ∷ [])
+numbered_again xs ns i n below e all = numbered-push xs xs (entry_at xs n) n ns
+    (numbers_again xs n (listed_within xs ns i n (omega (arith, below, length-map ns (entry_at xs))) e all)) all
+
+pub listed_again : (xs : List SourceEntry) (ns : List ℕ) (i n : ℕ) → i < length (map (entry_at xs) ns)
+    → n ≡ get_or ns i n → map (entry_at xs) (ns ++ n ∷ [])
+    ≡ map (entry_at xs) ns ++ unwrap_or (slice_get (map (entry_at xs) ns) i) no_entry ∷ []
+listed_again xs ns i n below e =
+    let within : i < length ns = omega (arith, below, length-map ns (entry_at xs)) in
+    rw (
+      map-append (entry_at xs) ns (n ∷ []),
+      unwrap_or-slice_get (map (entry_at xs) ns) i no_entry,
+      get_or-map (entry_at xs) ns i n no_entry within,
+      sym e,
+    ) refl

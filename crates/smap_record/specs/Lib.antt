@@ -20,6 +20,7 @@ pub mod Entries
 pub mod Numbered
 pub mod SourcesView
 pub mod MapView
+pub mod Making
 pub mod Steps
 pub mod Building
 pub mod Owned

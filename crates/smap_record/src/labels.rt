@@ -35,6 +35,14 @@ pub(crate) fn own_labels(alloc: Global, labels: &Labels<'_>) -> Result<OwnLabels
     Ok(OwnLabels { file })
 }
 
+/// A copy of the labels of a map.
+pub(crate) fn labels_of(alloc: Global, map: &SourceMap) -> Result<OwnLabels, AllocError>
+    ensures { IfOk result (λ own. own ≡ map.now.labels) }
+{
+    let file = copied(alloc, map.file())?;
+    Ok(OwnLabels { file })
+}
+
 /// The string that is kept.
 fn text(own: &Option<String>) -> Option<&str>
     ensures { option_copied result ≡ option_map string_bytes own.now }

@@ -54,7 +54,8 @@ impl Limits {
         }
     }
 
-    pub(crate) fn items(self) -> u32
+    /// The greatest number of sources, and likewise of names.
+    pub fn items(self) -> u32
         ensures value { result ≡ self.items }
         ensures most { result ≤ max_position }
     {

@@ -1,21 +1,23 @@
 //! The sources of a map. Distinct ones are kept once, in a hashed table; the listed ones are indices into it.
 ghost use Rattle.std.specs.Prelude.{◌≡◌, ◌<◌, ◌++◌, ◌∷◌, [], length, slice_get, Some, IfOk, IfErr};
+ghost use Rattle.std.specs.Prelude.{unwrap_or};
 ghost use Rattle.smap_record.specs.declared.fault.ReadError.TheVariants.{Memory};
-ghost use Rattle.smap_record.specs.Record.{distinct as each_once, same_entry};
+ghost use Rattle.smap_record.specs.Record.{distinct as each_once, no_entry, same_entry};
 ghost use Rattle.smap_record.specs.Numbered.{Numbers};
 ghost use Rattle.smap_record.specs.Entries.{entry_of};
 ghost use Rattle.smap_record.specs.Views.{entry_of_view};
 
 use crate::entry::SourceEntry;
 use crate::fault::ReadError;
+use crate::flat::copied;
 use crate::view::SourceView;
 use indexmap::IndexSet;
-use std::alloc::Global;
+use std::alloc::{AllocError, Global};
 use std::marker::Model;
 
 /// Sources as listed. Equal ones are kept once, and each listed one by its index among the distinct ones.
 #[derive(Drop)]
-pub(crate) struct Sources {
+pub struct Sources {
     distinct: IndexSet<SourceEntry>,
     listed: Vec<usize>,
 }
@@ -46,7 +48,8 @@ fn numbered(
 }
 
 impl Sources {
-    pub(crate) fn new(alloc: Global) -> Sources
+    /// None is listed yet.
+    pub fn new(alloc: Global) -> Sources
         ensures { result ≡ [] }
     {
         Sources {
@@ -69,6 +72,46 @@ impl Sources {
         Ok(Sources { distinct, listed })
     }
 
+    /// Lists a copy of one more source.
+    ///
+    /// # Errors
+    ///
+    /// `AllocError`.
+    pub fn with_copy(self, alloc: Global, source: SourceView<'_>) -> Result<Sources, AllocError>
+        ensures { IfOk result (λ s. s ≡ self ++ entry_of_view source.entry ∷ []) }
+    {
+        let url = copied(alloc, source.url)?;
+        let content = copied(alloc, source.content)?;
+        let ignored = source.ignored;
+        let Ok(listed) = self.with(SourceEntry {
+            url,
+            content,
+            ignored,
+        }) else {
+            return Err(AllocError);
+        };
+        Ok(listed)
+    }
+
+    /// Lists the i-th listed source once more, which copies no string. `i` must be below the number of those
+    /// that are listed.
+    ///
+    /// # Errors
+    ///
+    /// `AllocError`.
+    pub fn again(self, i: usize) -> Result<Sources, AllocError>
+        requires { i < length self }
+        ensures { IfOk result (λ s. s ≡ self ++ unwrap_or (slice_get self i) no_entry ∷ []) }
+    {
+        let Sources {
+            distinct,
+            mut listed,
+        } = self;
+        let number = listed[i];
+        listed.push(number)?;
+        Ok(Sources { distinct, listed })
+    }
+
     pub(crate) fn distinct_count(&self) -> usize
         ensures { result ≡ length (each_once same_entry self.now) }
     {
@@ -84,7 +127,8 @@ impl Sources {
         entry.as_view()
     }
 
-    pub(crate) fn listed_count(&self) -> usize
+    /// How many are listed.
+    pub fn listed_count(&self) -> usize
         ensures { result ≡ length self.now }
     {
         self.listed.len()
