@@ -3,8 +3,8 @@
     python3 bench/measure.py crates/smap/out/smap
     python3 bench/measure.py crates/smap/out/smap --into docs/PERFORMANCE.md
 
-Prints for each command and kind of input, at the largest size, the processor time (the median of some runs) and
-the peak memory, and the exponent of growth: time goes with the size to that power, from the smallest size on. With
+Prints for each command and kind of input the processor time (the median of some runs) and the peak memory at the
+largest size, and the exponent of growth: time goes with the size to that power, from the smallest size on. With
 --into the table is put between the two lines of that file that hold `figures of measure.py`. A command that the
 program doesn't have is left out. Let nothing else run meanwhile.
 """
