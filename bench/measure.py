@@ -3,8 +3,8 @@
     python3 bench/measure.py crates/smap/out/smap
     python3 bench/measure.py crates/smap/out/smap --into docs/PERFORMANCE.md
 
-Prints for each command and kind of input the processor time (the median of some runs), the peak memory, and
-the exponent of growth: time goes with the size to that power, from the smallest size to the largest. With
+Prints for each command and kind of input the processor time (the median of some runs) and the peak memory at the
+largest size, and the exponent of growth: time goes with the size to that power, from the smallest size on. With
 --into the table is put between the two lines of that file that hold `figures of measure.py`. A command that the
 program doesn't have is left out. Let nothing else run meanwhile.
 """
@@ -147,13 +147,13 @@ def rows(program, folder, runs):
 def table(measured):
     """The figures as a table in Markdown."""
     out = io.StringIO()
-    out.write("| command | input | MB | time, ms, at 1, 2, 4, 8 times the size | memory, MB | exponent |\n")
+    out.write("| command | input | MB | time, ms | memory, MB | exponent |\n")
     out.write("|---|---|---|---|---|---|\n")
     for command, kind, points in measured:
-        times = ", ".join(f"{s * 1e3:.0f}" for _, s, _ in points)
-        memory = ", ".join(f"{m:.0f}" for _, _, m in points)
+        size, seconds, memory = points[-1]
         grows = exponent(points[0][:2], points[-1][:2])
-        out.write(f"| `{command}` | {kind} | {points[-1][0] / 1e6:.1f} | {times} | {memory} | {grows:.2f} |\n")
+        figures = f"{size / 1e6:.1f} | {seconds * 1e3:.0f} | {memory:.0f} | {grows:.2f}"
+        out.write(f"| `{command}` | {kind} | {figures} |\n")
         print(out.getvalue().splitlines()[-1], flush=True)
     return out.getvalue()
 

@@ -9,8 +9,8 @@
 // lookup, since others decode then, in a fresh process and in a warm one; lookups at random positions and at
 // rising ones, after 150,000 others; all mappings; and how much the process grows up to the first lookup.
 // Each figure is the best of N processes, 3 unless given. A second table, in wall-clock time, has the parts of
-// opening the smallest map. With --into the first is put between the two lines of that file that hold `figures
-// of node.js`. Its time is processor time. Let nothing else run meanwhile.
+// opening the smallest map. With --into the first, without that map, is put between the two lines of that file
+// that hold `figures of node.js`. Its time is processor time. Let nothing else run meanwhile.
 const fs = require('node:fs');
 const os = require('node:os');
 const path = require('node:path');
@@ -263,6 +263,9 @@ function tableOfParts(map) {
   return [`| ${map.name}, ${map.count} mappings | µs |`, '|---|---|', ...lines].join('\n');
 }
 
+// A table without the rows of its first map.
+const ofLarger = text => text.replace(/(\|---.*\n)\| .*\n(?:\|  \|.*\n)*/, '$1');
+
 function putInto(file, mark, text) {
   const lines = fs.readFileSync(file, 'utf8').split('\n');
   const marks = lines.flatMap((line, i) => (line.includes(mark) ? [i] : []));
@@ -287,7 +290,7 @@ function main(words) {
     console.log(`${tableOfParts(maps[0])}\n`);
     const text = table(+(option('--runs') ?? 3), maps);
     console.log(text);
-    if (option('--into')) putInto(option('--into'), 'figures of node.js', text);
+    if (option('--into')) putInto(option('--into'), 'figures of node.js', ofLarger(text));
   } finally {
     fs.rmSync(folder, { recursive: true });
   }

@@ -214,18 +214,6 @@ class SaidTest(EventsCase):
         of_fish = re.findall(r"^complete .* -l ([-a-z]+)", (folder / "smap-events.fish").read_text(), flags=re.M)
         self.assertEqual({f"--{name}" for name in of_fish}, wanted)
 
-    def test_the_block_of_the_page_of_logs_runs(self):
-        page = (TOP / "docs" / "LOGS.md").read_text()
-        of_events = page[page.index("\n## Events\n") :]
-        block, wanted = re.findall(r"^```(?:sh)?\n(.*?)^```$", of_events, flags=re.M | re.S)[:2]
-        (counts,) = re.findall(r"`(events: .*?)`", of_events)
-        text = '{"version":3,"sources":["a.js"],"mappings":"AAUE,IAEA"}'
-        (self.temp / "dist").mkdir()
-        (self.temp / "dist" / "out.js.map").write_text(text)
-        env = {**ENVIRONMENT, "PATH": f"{PROGRAM.parent}:{os.environ['PATH']}"}
-        done = subprocess.run(["sh", "-c", block], cwd=self.temp, env=env, capture_output=True, check=False)
-        self.assertEqual((done.stdout.decode(), done.stderr.decode()), (wanted, f"smap-events: {counts}\n"))
-
     def test_a_wrong_command_line_is_told_of(self):
         dist = str(self.dist)
         for words, reason in [

@@ -10,7 +10,7 @@ const programs = blocks.flatMap(([, language, text], i) => {
   const printed = blocks.slice(i + 1).find(block => block[1] === '' || block[1] === 'js');
   return language === 'js' ? [{ text, printed: printed[1] === '' ? printed[2] : null }] : [];
 });
-const isWhole = programs.length >= 5 && programs.every(one => one.printed !== null);
+const isWhole = programs.length >= 4 && programs.every(one => one.printed !== null);
 if (!isWhole) throw new Error('a program without a result');
 fs.mkdirSync(folder, { recursive: true });
 programs.forEach(({ text, printed }, i) => {
