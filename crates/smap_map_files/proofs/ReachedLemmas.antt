@@ -274,11 +274,16 @@ if_both (Ok (Some a)) f g p = g a p
 if_both (Ok None) f g p = f p
 if_both (Err e) f g p = tt
 
--- what is said of a map where there is one
-pub some_of : {A : Type 0} (Q : Type 0) {R S : A → Type 0} (found : Option A) → ((a : A) → R a → S a)
-    → MatchOption found Q R → IfSome found S
-some_of Q (Some a) f p = f a p
-some_of Q None f p = tt
+-- what is said of an answer, and of what it may hold
+pub of_ok : {A E : Type 0} {R S : A → Type 0} (result : Result A E) → ((a : A) → R a → S a)
+    → IfOk result R → IfOk result S
+of_ok (Ok a) f p = f a p
+of_ok (Err e) f p = tt
+
+pub if_some : {A : Type 0} {R S : A → Type 0} (found : Option A) → ((a : A) → R a → S a)
+    → IfSome found R → IfSome found S
+if_some (Some a) f p = f a p
+if_some None f p = tt
 
 -- the lines of a script next to a map
 pub ends_beside : (held : Held) (root home : Option Folder) (place script : MapPlace) (text : List ℕ)

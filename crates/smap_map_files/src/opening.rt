@@ -386,6 +386,32 @@ fn script_beside<'a>(
     }))
 }
 
+/// What a script of a folder says of its map, whose text this is. What it leaves out isn't told: the map next
+/// to it is there.
+fn said_by<E: Eprint + AllocGlobal, D: Disk>(
+    host: &Host<'_, E, D>,
+    store: &mut FileStore<'_, D>,
+    skip: bool,
+    script: &Subject<'_>,
+    text: Vec<u8>,
+) -> Result<Beside, Stop>
+    requires { IsHeld (D.held store.old.disk.now) script.now.place.file.items text.items }
+    ensures named { IfOk result (λ said. IfSome said.named (λ f. IsFollowedUp script.now.reading
+        (D.held store.old.disk.now) (folder_of script.now.root) script.now.has_base
+        (place_in script.now.place) f.1)) }
+    ensures ends { IfOk result (λ said. widths_in said.ends
+        ≡ spec.ends_of (folder_of script.now.root) script.now.place.file.items text.items) }
+    ensures held { D.held store.new.disk.now ≡ D.held store.old.disk.now }
+{
+    let how = How {
+        skip,
+        verbose: false,
+    };
+    let ends = ends_of(host.alloc(), script, &text)?;
+    let named = map_of_script(host, store, how, script, text, &ends)?;
+    Ok(Beside { named, ends })
+}
+
 /// What the script says that lies next to a map of a folder.
 fn said_beside<E: Eprint + AllocGlobal, D: Disk>(
     host: &Host<'_, E, D>,
@@ -400,25 +426,18 @@ fn said_beside<E: Eprint + AllocGlobal, D: Disk>(
         (place_in subject.now.place) (widths_in said.ends)) }
     ensures held { D.held store.new.disk.now ≡ D.held store.old.disk.now }
 {
-    let nothing = Beside {
-        named: None,
-        ends: None,
-    };
     let Some(script) = script_beside(host.alloc(), subject)? else {
-        return Ok(nothing);
-    };
-    // what it leaves out is nothing to tell: the map next to it is there
-    let how = How {
-        skip: how.skip,
-        verbose: false,
+        return Ok(Beside {
+            named: None,
+            ends: None,
+        });
     };
     match Store::open(store, host.alloc(), &script.place) {
-        Ok(Content::Script(text)) => {
-            let ends = ends_of(host.alloc(), &script, &text)?;
-            let named = map_of_script(host, store, how, &script, text, &ends)?;
-            Ok(Beside { named, ends })
-        }
-        Ok(Content::Bytes(_) | Content::Unread(_)) => Ok(nothing),
+        Ok(Content::Script(text)) => said_by(host, store, how.skip, &script, text),
+        Ok(Content::Bytes(_) | Content::Unread(_)) => Ok(Beside {
+            named: None,
+            ends: None,
+        }),
         Err(_) => Err(Stop::Memory),
     }
 }
