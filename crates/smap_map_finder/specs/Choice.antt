@@ -2,7 +2,7 @@
 use Rattle.std.specs.Prelude.{◌≡◌, ◌⊎◌, ◌+◌, ◌<◌, ◌≤◌, ℕ, Bool, true, false, not, ◌==◌, ◌&&◌, ◌||◌}
 use Rattle.std.specs.Prelude.{nat_eq, nat_le, nat_lt, List, [], codes, cond, drop, length, map}
 use Rattle.std.specs.Prelude.{get_or, min, take, unwrap_or, ⊤}
-use Rattle.std.specs.Prelude.{Option, Some, None, option_and_then, option_map}
+use Rattle.std.specs.Prelude.{Ok, Option, Some, None, option_and_then, option_map}
 use Rattle.std.specs.Char.{is_ascii_alphanumeric}
 use Rattle.std.specs.List.{All, list_any, prefix_len, slice_get, starts_with}
 use Rattle.smap_system.specs.Held.{Held}
@@ -15,15 +15,16 @@ use Rattle.smap_link.specs.Urls.{is_path}
 use Rattle.smap_map_choice.specs.Picks.{ArePicks, IsFound}
 use Rattle.smap_map_choice.specs.Opening.{found_place}
 use Rattle.smap_map_choice.specs.PlaceView.{places_in}
-use Rattle.smap_map_choice.specs.Places.{MapPlace, scripts_of}
+use Rattle.smap_map_choice.specs.Places.{MapPlace, scripts_of, usual_base}
 use Rattle.smap_map_choice.specs.declared.picks.Found.{Found}
 use Rattle.smap_map_choice.specs.declared.picks.Found.TheVariants.{Given, ByEnd, Unclear, Missing}
 use Rattle.smap_map_choice.specs.declared.picks.Pick.{Pick}
-use Rattle.smap_record.specs.Record.{ReadMap}
-use Rattle.smap_map_files.specs.Given.{Folder, Names, NamesNothing, NamesUnfound}
+use Rattle.smap_record.specs.Record.{ReadMap, record_of}
+use Rattle.smap_map_files.specs.Given.{Folder, IsReading, Names, NamesNothing, NamesUnfound}
 use Rattle.smap_map_files.specs.Lists.{name_of_file}
 use Rattle.smap_map_files.specs.Opened.{GivesNone, IsOpened}
 use Rattle.smap_map_files.specs.RootView.{folder_in}
+use Rattle.smap_map_files.specs.declared.loading.Reading.{Reading}
 use Rattle.smap_map_files.specs.declared.wanted.Origin.{Origin}
 use Rattle.smap_map_files.specs.declared.wanted.Origin.TheVariants as origin
 use Rattle.smap_map_files.specs.declared.wanted.Wanted.{Wanted}
@@ -221,6 +222,35 @@ IsBest held w name found =
 abbrev pub IsBestOf : Held → Wanted → Pick → Type 0
 IsBestOf held w pick = IsBest held w pick.name.now pick.found
 
+-- ---- the name under which a map is opened
+
+abbrev pub scheme_size : List ℕ → ℕ
+scheme_size name = prefix_len (λ b. is_ascii_alphanumeric b || list_any (nat_eq b) (codes "+-.")) name
+
+-- a scheme and `://`, as a URL with a host begins
+abbrev pub has_scheme : List ℕ → Bool
+has_scheme name =
+    not (scheme_size name == 0) && starts_with nat_eq (drop (scheme_size name) name) (codes "://")
+
+-- a URL that names a place, or an absolute path
+abbrev pub is_absolute : List ℕ → Bool
+is_absolute name = is_path name || has_scheme name
+
+-- a name that is absolute, or else that of the file
+abbrev pub own_name : List ℕ → Option (List ℕ) → List ℕ
+own_name name None = name
+own_name name (Some file) = cond (is_absolute name) name (name_of_file file)
+
+-- The name under which a map is opened: that of the log; but of a map in a folder without a URL, where the
+-- log's is neither a URL nor a path, that of its own file.
+abbrev pub opening_name : Wanted → List ℕ → Found → List ℕ
+opening_name w name (Given i) = name
+opening_name w name (ByEnd i) = own_name name (slice_get (files_of w) i)
+opening_name w name (Unclear i j) = name
+opening_name w name Missing = name
+
+-- ---- files that are one
+
 -- The text of a script names its map by a `data:` URL.
 abbrev pub HoldsMap : List ℕ → List ℕ → Type 0
 HoldsMap script text = (url : List ℕ) × (link_in script text ≡ Some url) × (is_data url ≡ true)
@@ -237,7 +267,7 @@ abbrev pub HoldSame : Held → Bool → List ℕ → List ℕ → Type 0
 HoldSame None are_maps first second = ⊤
 HoldSame (Some held) are_maps first second = IsSame held are_maps first second
 
--- The same of the files with these numbers: they give the same map for one name.
+-- The same of the files with these numbers.
 pub record AreCopies (held : Held) (w : Wanted) (first second : ℕ) : Type 0 where
   pub first_name : List ℕ
   pub first_is : slice_get (files_of w) first ≡ Some first_name
@@ -253,19 +283,58 @@ AreCompared held w kept = All (λ c. c.are_copies ≡ true → AreCopies held w 
 abbrev pub rivals : Wanted → ℕ → List (List ℕ)
 rivals w file = cond (nat_lt file (map_count_of w)) (map_files_of w) (files_of w)
 
--- These are its rivals, but some that give the same map have no name.
-pub record AreWithoutCopies (held : Held) (w : Wanted) (file : ℕ) (files : List (List ℕ)) : Type 0 where
+-- Two texts, read with this URL of their own, are maps with equal records: their canonical bytes are equal.
+pub record IsOneMap (how : Reading) (url first second : List ℕ) : Type 0 where
+  pub one : ReadMap
+  pub other : ReadMap
+  pub first_is : IsReading how url first (Ok (Some one))
+  pub second_is : IsReading how url second (Ok (Some other))
+  pub same : record_of one ≡ record_of other
+
+-- Two files hold such texts.
+pub record IsAlike (how : Reading) (held : List ℕ → Option (List ℕ)) (url first second : List ℕ)
+    : Type 0 where
+  pub bytes : List ℕ
+  pub others : List ℕ
+  pub first_holds : held first ≡ Some bytes
+  pub second_holds : held second ≡ Some others
+  pub is_one : IsOneMap how url bytes others
+
+-- The same, where it is said what files hold.
+abbrev pub HoldAlike : Reading → Held → List ℕ → List ℕ → List ℕ → Type 0
+HoldAlike how None url first second = ⊤
+HoldAlike how (Some held) url first second = IsAlike how held url first second
+
+-- The own URL of the map that this file is, opened for a name.
+abbrev pub url_for : Wanted → List ℕ → ℕ → List ℕ
+url_for w name file = usual_base (opening_name w name (ByEnd file))
+
+-- The same of the files with these numbers, by the URL that the first has.
+pub record AreAlike (held : Held) (w : Wanted) (name : List ℕ) (first second : ℕ) : Type 0 where
+  pub first_name : List ℕ
+  pub first_is : slice_get (files_of w) first ≡ Some first_name
+  pub second_name : List ℕ
+  pub second_is : slice_get (files_of w) second ≡ Some second_name
+  pub alike : HoldAlike w.reading held (url_for w name first) first_name second_name
+
+-- For this name they are one: they hold the same, or are maps that are alike.
+abbrev pub AreOne : Held → Wanted → List ℕ → ℕ → ℕ → Type 0
+AreOne held w name first second = AreCopies held w first second ⊎ AreAlike held w name first second
+
+-- These are its rivals, but some that are one with it have no name.
+pub record AreWithoutCopies (held : Held) (w : Wanted) (name : List ℕ) (file : ℕ)
+    (files : List (List ℕ)) : Type 0 where
   pub count : length files ≡ length (rivals w file)
   pub each : (k : ℕ) → (get_or files k [] ≡ get_or (rivals w file) k [])
-      ⊎ ((get_or files k [] ≡ []) × AreCopies held w file k)
+      ⊎ ((get_or files k [] ≡ []) × AreOne held w name file k)
 
 -- A name has this file among those.
 pub record IsAmongCopies (held : Held) (w : Wanted) (name : List ℕ) (file : ℕ) : Type 0 where
   pub files : List (List ℕ)
-  pub without : AreWithoutCopies held w file files
+  pub without : AreWithoutCopies held w name file files
   pub is_found : IsFoundIn w files name (ByEnd file)
 
--- Of two files between which it isn't clear, the first, if it is but for those that give the same map.
+-- Of two files between which it isn't clear, the first, if it is but for those that are one with it.
 pub record IsCopied (held : Held) (w : Wanted) (name : List ℕ) (found : Found) : Type 0 where
   pub first : ℕ
   pub second : ℕ
@@ -294,18 +363,6 @@ abbrev pub AreChoices : Held → Wanted → List (List ℕ) → List Pick → Ty
 AreChoices held w names picks = ArePicksOf (IsChoiceOf held w) names picks
 
 -- ---- the map of what a name has
-
-abbrev pub scheme_size : List ℕ → ℕ
-scheme_size name = prefix_len (λ b. is_ascii_alphanumeric b || list_any (nat_eq b) (codes "+-.")) name
-
--- a scheme and `://`, as a URL with a host begins
-abbrev pub has_scheme : List ℕ → Bool
-has_scheme name =
-    not (scheme_size name == 0) && starts_with nat_eq (drop (scheme_size name) name) (codes "://")
-
--- a URL that names a place, or an absolute path
-abbrev pub is_absolute : List ℕ → Bool
-is_absolute name = is_path name || has_scheme name
 
 -- A name may belong to a file by its end: a URL that names a place, a path; of a frame also a name without a
 -- colon, since `node:internal/x.js` names none.
@@ -346,19 +403,6 @@ pub record AreFiles (held : Held) (w : Wanted) (in_frames : Bool) (names : List 
   pub picks : List Pick
   pub are_picked : ArePicked held w in_frames names picks
   pub files_are : files ≡ map (λ p. file_of w p.found) picks
-
--- a name that is absolute, or else that of the file
-abbrev pub own_name : List ℕ → Option (List ℕ) → List ℕ
-own_name name None = name
-own_name name (Some file) = cond (is_absolute name) name (name_of_file file)
-
--- The name under which a map is opened: that of the log; but of a map in a folder without a URL, where the
--- log's is neither a URL nor a path, that of its own file.
-abbrev pub opening_name : Wanted → List ℕ → Found → List ℕ
-opening_name w name (Given i) = name
-opening_name w name (ByEnd i) = own_name name (slice_get (files_of w) i)
-opening_name w name (Unclear i j) = name
-opening_name w name Missing = name
 
 -- A map was opened by this name for this.
 pub record IsOpenedAs (held : Held) (w : Wanted) (name : List ℕ) (found : Found) (m : ReadMap) : Type 0 where

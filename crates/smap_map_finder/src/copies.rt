@@ -1,4 +1,4 @@
-//! Files between which it isn't clear which one a name has, and which give the same map.
+//! Files between which it isn't clear which one a name has, and which are one.
 ghost use Rattle.std.specs.Prelude.{◌≡◌, ◌∷◌, [], IfOk, IfSome, List, Some, map, true, ℕ};
 ghost use Rattle.std.specs.List.{All};
 ghost use Rattle.smap_system.specs.Held.{Held, IsHeld};
@@ -6,7 +6,8 @@ ghost use Rattle.smap_link.specs.Table.{IsTable};
 ghost use Rattle.smap_map_choice.specs.Places.{scripts_of};
 ghost use Rattle.smap_map_choice.specs.declared.picks.Found.TheVariants.{ByEnd as by_end};
 ghost use Rattle.smap_map_finder.specs.Choice as spec;
-ghost use Rattle.smap_map_finder.specs.Choice.{AreChoices, AreCompared, AreCopies, ArePicksIn, HoldSame};
+ghost use Rattle.smap_map_finder.specs.Choice.{AreChoices, AreCompared, AreCopies, AreOne, ArePicksIn};
+ghost use Rattle.smap_map_finder.specs.Choice.{HoldSame};
 ghost use Rattle.smap_map_finder.specs.Choice.{HoldsMap, IsAmongCopies, IsBestOf, IsChoiceOf, IsFoundIn};
 ghost use Rattle.smap_map_finder.specs.Choice.{files_of, places_of};
 ghost use Rattle.smap_map_finder.specs.ChosenView.{IsOver};
@@ -21,7 +22,7 @@ use smap_map_files::Wanted;
 use smap_system::{Disk, FileFault, LIMIT, Stop, read_file};
 use std::alloc::AllocError;
 
-/// Whether the files with these numbers give the same map.
+/// Whether the files with these numbers hold the same.
 #[derive(Clone, Copy)]
 pub(crate) struct Compared {
     pub(crate) first: usize,
@@ -105,7 +106,7 @@ fn rivals<'s, 'f>(wanted: &Wanted<'_>, files: &'s [&'f [u8]], file: usize) -> &'
 
 impl<E: Eprint + AllocGlobal, D: Disk> Search<'_, E, D> {
     /// What a file holds, if it can be read.
-    fn bytes_of(&self, file: &[u8]) -> Result<Option<Vec<u8>>, Stop>
+    pub(crate) fn bytes_of(&self, file: &[u8]) -> Result<Option<Vec<u8>>, Stop>
         ensures { IfOk result (λ bytes. IfSome bytes
             (λ b. IsHeld (held_in D.held self.now) file.now b.items)) }
     {
@@ -175,6 +176,28 @@ impl<E: Eprint + AllocGlobal, D: Disk> Search<'_, E, D> {
         Ok(are_copies)
     }
 
+    /// Whether they are one for a name: they hold the same, or are maps that are alike.
+    fn are_one(
+        &self,
+        opener: &mut Opener<'_, D>,
+        name: &[u8],
+        first: usize,
+        second: usize,
+    ) -> Result<bool, Stop>
+        requires { IsOver D.held (held_in D.held self.now) (wanted_in self.now) opener.old }
+        ensures one { IfOk result (λ are. are ≡ true
+            → AreOne (held_in D.held self.now) (wanted_in self.now) name.now first second) }
+        ensures over { IsOver D.held (held_in D.held self.now) (wanted_in self.now) opener.new }
+    {
+        if self.are_copies(&mut opener.compared, first, second)? {
+            return Ok(true);
+        }
+        if first >= map_count(self.wanted) {
+            return Ok(false);
+        }
+        self.are_alike(&mut opener.tried, name, first, second)
+    }
+
     /// What is found for a name among these files.
     fn found_among(
         &self,
@@ -191,7 +214,7 @@ impl<E: Eprint + AllocGlobal, D: Disk> Search<'_, E, D> {
         Ok(first_found(&picks))
     }
 
-    /// Whether a name has this file once those are left out that give the same map.
+    /// Whether a name has this file once those are left out that are one with it.
     fn is_among_copies(
         &self,
         opener: &mut Opener<'_, D>,
@@ -214,7 +237,7 @@ impl<E: Eprint + AllocGlobal, D: Disk> Search<'_, E, D> {
             let Some(other) = other_than(found, file) else {
                 return Ok(false);
             };
-            if other >= left.len() || !self.are_copies(&mut opener.compared, file, other)? {
+            if other >= left.len() || !self.are_one(opener, name, file, other)? {
                 return Ok(false);
             }
             left[other] = b"".as_slice();
@@ -223,7 +246,7 @@ impl<E: Eprint + AllocGlobal, D: Disk> Search<'_, E, D> {
     }
 
     /// What a name has of which this is found: of two files between which it isn't clear, the first, if it is
-    /// but for those that give the same map.
+    /// but for those that are one with it.
     fn choose<'n>(
         &self,
         opener: &mut Opener<'_, D>,

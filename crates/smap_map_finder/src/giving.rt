@@ -24,7 +24,7 @@ use std::sync::Arc;
 
 /// For so many names a file of a folder without a URL is opened at most, since for each its sources have
 /// other URLs: a log may have any number of names that end alike.
-const MOST_FOR: usize = 100;
+pub(crate) const MOST_FOR: usize = 100;
 
 /// Whether a pick's file is opened.
 #[derive(Clone, Copy, PartialEq, Eq)]

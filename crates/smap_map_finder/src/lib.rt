@@ -4,6 +4,7 @@
 //! What is wrong is said on standard error, with the status of that (`smap_system`).
 #![tactic(auto)]
 
+mod alike;
 mod checking;
 mod chosen;
 mod copies;

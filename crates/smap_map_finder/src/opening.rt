@@ -7,9 +7,11 @@ ghost use Rattle.smap_map_choice.specs.Opening.{found_place};
 ghost use Rattle.smap_map_choice.specs.PlaceView.{place_in};
 ghost use Rattle.smap_map_finder.specs.Searching.{wanted_in};
 
+use crate::alike::Pair;
 use crate::copies::Compared;
 use crate::links::Links;
 use crate::roots::{has_base, root_of};
+use indexmap::IndexMap;
 use smap_link::{ChoiceFault, ScriptTable};
 use smap_map_choice::{Found, Pick, Place, table_of, usual_place};
 use smap_map_files::{FileStore, How, Subject, Wanted, copied, open_map_of};
@@ -31,6 +33,8 @@ pub(crate) struct Opener<'a, D> {
     pub(crate) table: ScriptTable,
     pub(crate) links: Links,
     pub(crate) compared: Vec<Compared>,
+    /// How often two files were found to be alike, or as often as that is tried at most, if they once weren't.
+    pub(crate) tried: IndexMap<Pair, usize>,
     pub(crate) store: FileStore<'a, D>,
 }
 
@@ -50,6 +54,7 @@ impl<'a, D> Opener<'a, D> {
                 table,
                 links: Links::new(alloc),
                 compared: Vec::new(alloc),
+                tried: IndexMap::new(alloc),
                 store: FileStore::new(alloc, disk),
             }),
             Err(ChoiceFault::Memory) => Err(Stop::Memory),

@@ -26,15 +26,10 @@ loop-preserved g c =
     let other = c.in-Some.other in
     let within : other < length left = search rules in
     let lt : other < length (map now left) = simp length-map (omega (arith, within)) in
-    let are : c.in_ok-are_copies.field-0 ≡ true = grind (arith, c.if-not-branch.false) in
+    let are : c.in_ok-are_one.field-0 ≡ true = grind (arith, c.if-not-branch.false) in
     let none : c.as_slice.result.now ≡ [] = search rules in (
-      one_out held w c.args.file other (map now left) _ lt c.loop.invariant.0
-          (c.in_ok-are_copies.ensures.copies are)
+      one_out held w c.args.name.now c.args.file other (map now left) _ lt c.loop.invariant.0
+          (c.in_ok-are_one.ensures.one are)
           (map-set now left other c.as_slice.result ∙ ap (λ (n : List ℕ). set (map now left) other n) none),
-      record {
-        held_is = c.loop.invariant.1.held_is;
-        table_is = c.in_ok-found.ensures.table;
-        links_are = c.loop.invariant.1.links_are;
-        compared_are = c.in_ok-are_copies.ensures.compared;
-      },
+      c.in_ok-are_one.ensures.over,
     )
