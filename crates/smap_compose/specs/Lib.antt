@@ -1,0 +1,4 @@
+pub mod Chain
+pub mod Composing
+pub mod Laws
+pub mod Thinning
