@@ -6,3 +6,6 @@ pub mod MappingLemmas
 pub mod OnceLemmas
 pub mod SourceLemmas
 pub mod ThinLemmas
+pub mod StandingLemmas
+pub mod FollowingLemmas
+pub mod JoiningLemmas

@@ -5,4 +5,12 @@
 //! positions, and a lookup in it is one lookup after the other, at every line and column.
 #![tactic(auto)]
 
+mod composing;
+mod error;
+mod following;
+mod joining;
 pub mod laws;
+mod standing;
+
+pub use composing::compose;
+pub use error::ComposeError;
