@@ -1,0 +1,133 @@
+-- Known answers, computed by the definitions.
+use Rattle.std.proofs.Common.{◌≡◌, ℕ, List, [], ◌∷◌, Option, Some, None, Bool, true, false, refl}
+use Rattle.std.specs.Prelude.{codes}
+use Rattle.smap_record.specs.Record.{Entry, Origin, Mapping, Record, no_labels, distinct}
+use Rattle.smap_compose.specs.Chain.{chained, led_to}
+use Rattle.smap_compose.specs.Composing.{composition}
+use Rattle.smap_compose.specs.Thinning.{thinned}
+
+abbrev source : List ℕ → Entry
+source url = record { url = Some url; content = None; ignored = false }
+
+abbrev at : Entry → ℕ → ℕ → Option Origin
+at s line column = Some (record { source = s; line = line; column = column; name = None })
+
+abbrev named : Entry → ℕ → ℕ → List ℕ → Option Origin
+named s line column name = Some (record { source = s; line = line; column = column; name = Some name })
+
+abbrev mapped : ℕ → ℕ → Option Origin → Mapping
+mapped line column origin = record { line = line; column = column; origin = origin }
+
+abbrev says : List Entry → List Mapping → Record
+says sources mappings = record { labels = no_labels; sources = sources; mappings = mappings }
+
+abbrev a_ts : Entry
+a_ts = source (codes "a.ts")
+
+abbrev b_ts : Entry
+b_ts = source (codes "b.ts")
+
+abbrev c_ts : Entry
+c_ts = source (codes "c.ts")
+
+abbrev m_js : Entry
+m_js = source (codes "m.js")
+
+-- What the inner map has no original of has none, and isn't taken for what stands before it.
+no_original : composition
+    (says (m_js ∷ []) (mapped 0 0 (at m_js 0 0) ∷ mapped 0 4 (at m_js 1 0) ∷ []))
+    (led_to ((codes "m.js", says (a_ts ∷ []) (mapped 0 0 (at a_ts 0 0) ∷ [])) ∷ []))
+    ≡ says (a_ts ∷ []) (mapped 0 0 (at a_ts 0 0) ∷ mapped 0 4 None ∷ [])
+unfolding distinct
+no_original = refl
+
+-- ---- names, contents, ignored sources
+
+abbrev with_content : List ℕ → List ℕ → Bool → Entry
+with_content url content ignored = record { url = Some url; content = Some content; ignored = ignored }
+
+abbrev hidden : Entry
+hidden = with_content (codes "m.js") (codes "M") true
+
+abbrev beside : Entry
+beside = with_content (codes "v.js") (codes "V") false
+
+abbrev written : Bool → Entry
+written ignored = with_content (codes "a.ts") (codes "A") ignored
+
+abbrev labelled : List ℕ → List Entry → List Mapping → Record
+labelled file sources mappings =
+    record { labels = record { file = Some file }; sources = sources; mappings = mappings }
+
+-- The inner name counts, the outer one where there is none, and a source that stands for an ignored one is
+-- ignored.
+names_and_flags : composition
+    (labelled (codes "out.js") (hidden ∷ beside ∷ [])
+    (mapped 0 0 (named hidden 0 0 (codes "x")) ∷ mapped 0 4 (named hidden 0 9 (codes "y"))
+    ∷ mapped 0 8 (named beside 2 0 (codes "x")) ∷ []))
+    (led_to ((
+      codes "m.js",
+      labelled (codes "m.js") (written false ∷ [])
+          (mapped 0 0 (at (written false) 0 0) ∷ mapped 0 5 (named (written false) 3 2
+          (codes "name")) ∷ []),
+    ) ∷ []))
+    ≡ labelled (codes "out.js") (written true ∷ beside ∷ [])
+    (mapped 0 0 (named (written true) 0 0 (codes "x")) ∷ mapped 0 4 (named (written true) 3 2
+    (codes "name"))
+    ∷ mapped 0 8 (named beside 2 0 (codes "x")) ∷ [])
+unfolding distinct
+names_and_flags = refl
+
+-- ---- several mappings at one position, and some without original
+
+abbrev ties : Record
+ties = composition
+    (says (m_js ∷ []) (mapped 0 0 (at m_js 0 0) ∷ mapped 0 2 (at m_js 0 0) ∷ mapped 0 4 (at m_js 0 6)
+    ∷ mapped 1 0 None ∷ []))
+    (led_to ((
+      codes "m.js",
+      says (a_ts ∷ [])
+          (mapped 0 0 (at a_ts 0 0) ∷ mapped 0 0 (at a_ts 7 1) ∷ mapped 0 6 None ∷ []),
+    ) ∷ []))
+
+last_at_position : ties ≡ says (a_ts ∷ [])
+    (mapped 0 0 (at a_ts 7 1) ∷ mapped 0 2 (at a_ts 7 1) ∷ mapped 0 4 None ∷ mapped 1 0 None ∷ [])
+unfolding distinct
+last_at_position = refl
+
+thin : thinned ties ≡ says (a_ts ∷ []) (mapped 0 0 (at a_ts 7 1) ∷ mapped 0 4 None ∷ [])
+unfolding distinct
+thin = refl
+
+-- ---- a chain of one name
+
+abbrev a_js : Entry
+a_js = source (codes "a.js")
+
+one_name : chained
+    (says (a_js ∷ []) (mapped 0 0 (at a_js 0 0) ∷ mapped 0 3 (at a_js 0 5) ∷ []))
+    ((codes "a.js", says (a_js ∷ []) (mapped 0 0 (at a_js 0 0) ∷ mapped 0 5 (at a_js 2 1) ∷ []))
+    ∷ (
+      codes "a.js",
+      says (a_js ∷ []) (mapped 0 0 (at a_js 9 0) ∷ mapped 2 0 (named a_js 8 4
+          (codes "f")) ∷ []),
+    )
+    ∷ [])
+    ≡ says (a_js ∷ []) (mapped 0 0 (at a_js 9 0) ∷ mapped 0 3 (named a_js 8 4 (codes "f")) ∷ [])
+unfolding distinct
+one_name = refl
+
+-- ---- sources in their order, each once
+
+abbrev null : Entry
+null = record { url = None; content = None; ignored = false }
+
+abbrev many : Record
+many = composition
+    (says (a_ts ∷ m_js ∷ null ∷ []) (mapped 0 0 (at m_js 0 0) ∷ mapped 0 2 (at null 1 1) ∷ []))
+    (led_to ((codes "m.js", says (b_ts ∷ a_ts ∷ c_ts ∷ []) (mapped 0 0 (at b_ts 0 0) ∷ [])) ∷ []))
+
+in_order : many ≡ says (a_ts ∷ b_ts ∷ c_ts ∷ null ∷ [])
+    (mapped 0 0 (at b_ts 0 0) ∷ mapped 0 2 (at null 1 1) ∷ [])
+unfolding distinct
+in_order = refl

@@ -1,0 +1,8 @@
+use Rattle.std.proofs.Common.{◌≡◌, map, take}
+use Rattle.smap_record.specs.Record.{record_of}
+use Rattle.smap_trace.specs.LineStarts.{line_starts}
+use Rattle.smap_compose.proofs.following.tables.Given as goal
+
+-- those that were gone through have their tables
+abbrev pub invariant-loop-i : goal.invariant-loop-i
+invariant-loop-i l = l.tables.items ≡ map (λ m. line_starts (record_of m).mappings) (take l.i l.inner)

@@ -1,0 +1,11 @@
+use Rattle.std.proofs.Common.{◌≡◌, map}
+use Rattle.std.specs.List.{range_with_len}
+use Rattle.smap_compose.specs.Standing.{standing_up_to, start_of}
+use Rattle.smap_compose.proofs.standing.standing_sources.Given as goal
+
+-- what stands for those that were gone through is listed
+abbrev pub invariant-loop-i : goal.invariant-loop-i
+invariant-loop-i l = record {
+  sources : l.sources ≡ standing_up_to l.outer l.inner l.leads l.i;
+  starts : l.starts.items ≡ map (start_of l.outer l.inner l.leads) (range_with_len 0 l.i);
+}
