@@ -237,7 +237,11 @@ impl<E: Eprint + AllocGlobal, D: Disk> Search<'_, E, D> {
             let Some(other) = other_than(found, file) else {
                 return Ok(false);
             };
-            if other >= left.len() || !self.are_one(opener, name, file, other)? {
+            if other >= left.len() {
+                return Ok(false);
+            }
+            let is_one = self.are_one(opener, name, file, other)?;
+            if !is_one {
                 return Ok(false);
             }
             left[other] = b"".as_slice();

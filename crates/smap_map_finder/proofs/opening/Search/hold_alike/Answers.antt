@@ -11,7 +11,7 @@ returns g c = λ are.
     let other : IsHeld held c.args.second.now c.in-Some-2.others.items =
     rw c.in-Some-2.is at c.in_ok-others.ensures in
     let is : IsOneMap c.args.self.now.wanted.now.reading c.args.url.now c.in-Some.bytes.items
-    c.in-Some-2.others.items = rw (c.deref.ensures.value, c.deref-2.ensures.value, c.deref-3.ensures.value)
+    c.in-Some-2.others.items = rw (c.deref.ensures.value, c.deref-2.ensures.value)
     at (c.in_ok-are_one_map.ensures are) in
     alike_of c.args.self.now.wanted.now.reading held c.args.url.now c.args.first.now c.args.second.now _ _ one
     other is

@@ -26,10 +26,10 @@ loop-preserved g c =
     let other = c.in-Some.other in
     let within : other < length left = search rules in
     let lt : other < length (map now left) = simp length-map (omega (arith, within)) in
-    let are : c.in_ok-are_one.field-0 ≡ true = grind (arith, c.if-not-branch.false) in
+    let are : c.in_ok-is_one.is_one ≡ true = grind (arith, c.if-not-is_one.false) in
     let none : c.as_slice.result.now ≡ [] = search rules in (
       one_out held w c.args.name.now c.args.file other (map now left) _ lt c.loop.invariant.0
-          (c.in_ok-are_one.ensures.one are)
+          (c.in_ok-is_one.ensures.one are)
           (map-set now left other c.as_slice.result ∙ ap (λ (n : List ℕ). set (map now left) other n) none),
-      c.in_ok-are_one.ensures.over,
+      c.in_ok-is_one.ensures.over,
     )
