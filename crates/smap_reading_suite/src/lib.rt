@@ -10,6 +10,8 @@
 #[cfg(test)]
 mod asserted;
 #[cfg(test)]
+mod composing;
+#[cfg(test)]
 mod contents;
 #[cfg(test)]
 mod limits;

@@ -48,9 +48,9 @@ fn has_lists(rt: &impl Abort, map: &SourceMap) {
 
 /// The line and column of a mapping; if it has an original, the number of its source, its line, its column,
 /// and its name.
-type Told<'a> = (u32, u32, Option<(usize, u32, u32, Option<&'a str>)>);
+pub(crate) type Told<'a> = (u32, u32, Option<(usize, u32, u32, Option<&'a str>)>);
 
-fn told(token: TokenView<'_>) -> Told<'_> {
+pub(crate) fn told(token: TokenView<'_>) -> Told<'_> {
     let original = match token.original {
         Some(o) => Some((o.source_number, o.line, o.column, o.name)),
         None => None,
