@@ -2,6 +2,7 @@
 //! what for:
 //!
 //! - `ranges`: where the faults of maps are ([`ranges`]).
+//! - `functions`: the functions of texts ([`texts`]).
 //! - `repair URL`, `mappings URL`: a map with this URL repaired, or its mappings ([`repairs`]).
 //! - `call NAME`: the call of the libraries with this name ([`calls`]).
 //!
@@ -15,6 +16,7 @@ mod maps;
 mod ranges;
 mod repairs;
 mod runs;
+mod texts;
 mod traces;
 mod words;
 
@@ -48,6 +50,7 @@ fn with_map(rt: &HostRuntime, what: &str, url: &str, text: &[u8]) -> u8 {
 fn answer(rt: &HostRuntime, words: &[String], text: &[u8]) -> u8 {
     match words {
         [_, what] if what.as_str() == "ranges" => ranges::ranges(rt, text),
+        [_, what] if what.as_str() == "functions" => texts::print_functions(rt, text),
         [_, what, name] if what.as_str() == "call" => calls::call(rt, name.as_str(), text),
         [_, what, url] => with_map(rt, what.as_str(), url.as_str(), text),
         _ => 2,

@@ -1,0 +1,2 @@
+pub mod NestedLemmas
+pub mod LastLemmas

@@ -1,0 +1,3 @@
+pub mod Words
+pub mod Functions
+pub mod Nested
