@@ -62,6 +62,8 @@ def try_browser(browser, folder, made, url, simple_url, count):
     test(f"{browser.name}: a source in very many folders", areas.long_paths, browser, folder)
     test(f"{browser.name}: sizes after gzip", areas.estimates_gzip, browser, made, url)
     test(f"{browser.name}: all scripts", areas.all_scripts, browser, folder)
+    test(f"{browser.name}: the comment with the map", areas.comment_with_map, browser, folder)
+    test(f"{browser.name}: growth", areas.growth, browser, folder)
     test(f"{browser.name}: areas of many sources", areas.many_areas, browser, folder, print)
     test(f"{browser.name}: the table", areas.table_sorts, browser, url)
     test(f"{browser.name}: keyboard", marks.keyboard, browser, simple_url)
