@@ -81,6 +81,17 @@ pub(crate) fn rows_in<'a>(
     Ok(rows)
 }
 
+/// The table of rows.
+fn table_of<'a>(alloc: Global, rows: &[Row<'a>]) -> Result<IndexMap<&'a str, Amounts>, AllocError>
+    ensures { IfOk result (λ t. spec.lines_of t.entries ≡ spec.table_of (spec.lines rows.now)) }
+{
+    let mut table = IndexMap::new(alloc);
+    for row in rows {
+        add_row(&mut table, row.name, row.amounts)?;
+    }
+    Ok(table)
+}
+
 /// A row for each name, in the order of their first places, with what its rows have together.
 ///
 /// # Errors
@@ -89,9 +100,6 @@ pub(crate) fn rows_in<'a>(
 pub fn summed<'a>(alloc: Global, rows: &[Row<'a>]) -> Result<Vec<Row<'a>>, AllocError>
     ensures { IfOk result (λ r. spec.lines r.items ≡ spec.summed (spec.lines rows.now)) }
 {
-    let mut table = IndexMap::new(alloc);
-    for i in 0..rows.len() {
-        add_row(&mut table, rows[i].name, rows[i].amounts)?;
-    }
+    let table = table_of(alloc, rows)?;
     rows_in(alloc, &table)
 }

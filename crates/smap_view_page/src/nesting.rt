@@ -1,5 +1,6 @@
 //! What the folders have that sources are in.
-ghost use Rattle.std.specs.Prelude.{◌≡◌, IfOk, OnOk, fold, option_map};
+ghost use Rattle.std.specs.Prelude.{◌≡◌, ◌++◌, IfOk, OnOk, fold, option_map};
+ghost use Rattle.std.specs.List.{flat_map};
 ghost use Rattle.smap_view_page.specs.Amounts as sums;
 ghost use Rattle.smap_view_page.specs.Folders as spec;
 
@@ -62,14 +63,26 @@ fn add_folders<'a>(
     Ok(())
 }
 
+/// The table of the folders that rows are in.
+fn folder_table<'a>(
+    alloc: Global,
+    rows: &[Row<'a>],
+) -> Result<IndexMap<&'a str, Amounts>, AllocError>
+    ensures { IfOk result (λ t. sums.lines_of t.entries
+        ≡ sums.table_of (flat_map spec.folder_lines (sums.lines rows.now))) }
+{
+    let mut table = IndexMap::new(alloc);
+    for row in rows {
+        add_folders(&mut table, row.name, row.amounts)?;
+    }
+    Ok(table)
+}
+
 /// What is in each folder and below it, in the order of their first sources.
 fn folder_sums<'a>(alloc: Global, rows: &[Row<'a>]) -> Result<Vec<Row<'a>>, AllocError>
     ensures { IfOk result (λ r. sums.lines r.items ≡ spec.sums (sums.lines rows.now)) }
 {
-    let mut table = IndexMap::new(alloc);
-    for i in 0..rows.len() {
-        add_folders(&mut table, rows[i].name, rows[i].amounts)?;
-    }
+    let table = folder_table(alloc, rows)?;
     rows_in(alloc, &table)
 }
 
@@ -79,10 +92,25 @@ fn is_passed(rows: &[Row<'_>], i: usize) -> bool
 {
     match (rows.get(i), rows.get(i.saturating_add(1))) {
         (Some(row), Some(next)) => {
-            row.amounts.parts == next.amounts.parts && next.name.as_bytes().starts_with(row.name.as_bytes())
+            row.amounts.parts == next.amounts.parts
+                && next.name.as_bytes().starts_with(row.name.as_bytes())
         }
         _ => false,
     }
+}
+
+/// Appends the folder with this number, unless it is passed over.
+fn push_told<'a>(told: &mut Vec<Row<'a>>, rows: &[Row<'a>], i: usize) -> Result<(), AllocError>
+    ensures { OnOk result (sums.lines told.new.items
+        ≡ sums.lines told.old.items ++ spec.told_at (sums.lines rows.now) i) }
+{
+    if is_passed(rows, i) {
+        return Ok(());
+    }
+    if let Some(row) = rows.get(i) {
+        told.push(*row)?;
+    }
+    Ok(())
 }
 
 /// The folders that sources are in, in the order of their first sources, with what is in each and below it.
@@ -97,9 +125,7 @@ pub fn folders<'a>(alloc: Global, rows: &[Row<'a>]) -> Result<Vec<Row<'a>>, Allo
     let all = folder_sums(alloc, rows)?;
     let mut told = Vec::new(alloc);
     for i in 0..all.len() {
-        if !is_passed(&all, i) {
-            told.push(all[i])?;
-        }
+        push_told(&mut told, &all, i)?;
     }
     Ok(told)
 }

@@ -41,10 +41,9 @@ pub const OPTIONS: [OptionRow; 6] = [
         value_name: "FORMAT",
         expected: "table, tsv or json",
         help: "Write no page, but the bytes and mappings of each source: table, tsv or json",
-        details: "As table they are for people, with sums of folders, and of several scripts with what \
-                  each has of a source; as tsv there is a line for each source with the script, bytes, \
-                  mappings and the source, with tabs between them; as json, a line with an object for \
-                  each script.",
+        details: "As table they are for people; as tsv there is a line for each source with the \
+                  script, bytes, mappings and the source, with tabs between them; as json, a line with \
+                  an object for each script.",
         ..FLAG
     },
     OptionOf {
