@@ -312,7 +312,8 @@ def comment_with_map(browser, folder):
     browser.run(FLAT)
     rows = [row[:2] for row in browser.run(TABLE)]
     equal(rows, [["the comment with the map", str(len(comment))], ["a.js", "5"]])
-    browser.wait(f"return document.getElementById('caption').textContent.startsWith('{len(comment) + 5} bytes')")
+    caption = browser.run("return document.getElementById('caption').textContent")
+    equal(caption, f"{len(comment) + 5} bytes of inline.js")
 
 
 BUILDS = {"before": {"src/a.js": 100, "src/b.js": 200, "lib/gone.js": 50, "lib/same.js": 9},
@@ -338,8 +339,8 @@ def growth(browser, folder):
     equal(browser.run(PATH), ["growth +20 bytes, 359 to 379"])
     equal(browser.run("return document.getElementById('caption').textContent"),
           "+20 bytes, 359 to 379, since before")
-    equal(browser.run("return [...document.querySelectorAll('thead button')].map(one => one.textContent)")[:4],
-          ["Source", "Growth", "Before", "Now"])
+    heads = browser.run("return [...document.querySelectorAll('thead button')].map(one => one.textContent)")
+    equal(heads[:4], ["Source", "Growth", "Before", "Now"])
     equal(browser.run(TABLE), [["lib/", "+40", "59", "99"], ["src/", "\u221220", "300", "280"]])
     browser.run(FLAT)
     equal(browser.run(TABLE), [["lib/new.jsnew", "+90", "0", "90"], ["src/a.js", "+60", "100", "160"],
@@ -358,7 +359,8 @@ def growth(browser, folder):
     equal(browser.run("return location.hash"), "#growth=src/")
     equal(browser.run(PATH), ["growth +20 bytes, 359 to 379", "src/ \u221220 bytes, 300 to 280"])
     browser.run("""
-        [...document.querySelectorAll('#tree > button')].find(one => one.title.startsWith('src/b.js')).click();""")
+        [...document.querySelectorAll('#tree > button')].find(one => one.title.startsWith('src/b.js'))
+            .click();""")
     assert " of http://h/m/src/b.js" in status(browser), status(browser)
     # the same page has the bytes of the new build
     open_bytes(browser, url, "#growth")

@@ -35,8 +35,8 @@ CONTRASTS = """
 
 
 def contrasts(browser, url, refused, growth):
-    """Each text has a contrast of at least 4.5 to 1 to what is behind it, in both schemes, in each colour, and
-    where something grew or shrank."""
+    """Each text has a contrast of at least 4.5 to 1 to what is behind it, in both schemes, in each colour, also
+    of what grew or shrank."""
     grounds = set()
     for scheme in "light", "dark":
         browser.scheme(scheme)

@@ -1,8 +1,10 @@
 //! What a page holds of a small map, by hand.
 use crate::asserted::{equal, holds};
 use smap_record::{Base, Limits, SourceMap};
-use smap_view_page::{Amounts, Row, by_growth, code_length, embedded, folders, map_json, mappings_text};
-use smap_view_page::{measured, share, summed, text_json};
+use smap_view_page::{
+    Amounts, Row, by_growth, code_length, embedded, folders, map_json, mappings_text, measured,
+    share, summed, text_json,
+};
 use std::alloc::Global;
 use std::test::Fail;
 
@@ -67,18 +69,24 @@ fn row(name: &str, old: u64, bytes: u64) -> Row<'_> {
 /// Whether a row has this name and these bytes, before and now.
 fn has(rows: &[Row<'_>], i: usize, name: &str, old: u64, bytes: u64) -> bool {
     match rows.get(i) {
-        Some(row) => {
-            row.name == name && row.amounts.old == old && row.amounts.bytes == bytes
-        }
+        Some(row) => { row.name == name && row.amounts.old == old && row.amounts.bytes == bytes }
         None => false,
     }
 }
 
 #[test]
 fn rows_of_one_name_are_summed(rt: HostRuntime) -> Result<(), Fail> {
-    let rows = [row("b", 0, 3), row("a", 0, 2), row("b", 4, 0), row("a", u64::MAX, 1)];
+    let rows = [
+        row("b", 0, 3),
+        row("a", 0, 2),
+        row("b", 4, 0),
+        row("a", u64::MAX, 1),
+    ];
     let mut sums = summed(rt.alloc(), &rows)?;
-    holds(&rt, has(&sums, 0, "b", 4, 3) && has(&sums, 1, "a", u64::MAX, 3));
+    holds(
+        &rt,
+        has(&sums, 0, "b", 4, 3) && has(&sums, 1, "a", u64::MAX, 3),
+    );
     by_growth(&mut sums)?;
     holds(&rt, has(&sums, 0, "b", 4, 3) && sums.len() == 2);
     Ok(())
@@ -86,9 +94,16 @@ fn rows_of_one_name_are_summed(rt: HostRuntime) -> Result<(), Fail> {
 
 #[test]
 fn folders_have_what_is_in_them(rt: HostRuntime) -> Result<(), Fail> {
-    let rows = [row("x://m/p/q/a", 0, 3), row("x://m/p/b", 1, 2), row("c", 0, 9)];
+    let rows = [
+        row("x://m/p/q/a", 0, 3),
+        row("x://m/p/b", 1, 2),
+        row("c", 0, 9),
+    ];
     let sums = folders(rt.alloc(), &rows)?;
-    holds(&rt, has(&sums, 0, "x://m/p/", 1, 5) && has(&sums, 1, "x://m/p/q/", 0, 3));
+    holds(
+        &rt,
+        has(&sums, 0, "x://m/p/", 1, 5) && has(&sums, 1, "x://m/p/q/", 0, 3),
+    );
     equal(&rt, sums.len(), 2);
     Ok(())
 }

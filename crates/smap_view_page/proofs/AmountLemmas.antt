@@ -1,23 +1,18 @@
 -- Tables of what names have.
-use Rattle.std.proofs.Common.{◌≡◌, ◌∙◌, ◌+◌, ◌-◌, ◌^◌, ◌<◌, ◌≤◌, ℕ, Bool, false, cond, Bor, inl, inr, List, [], ◌∷◌}
-use Rattle.std.proofs.Common.{◌++◌, Option, Some, None, ap, arith, filter, fold, get_or, length, map, min, refl}
-use Rattle.std.proofs.Common.{append-nil, sum, sym, take, unwrap_or, slice_get, zero, suc}
+use Rattle.std.proofs.Common.{◌≡◌, ◌∙◌, ◌+◌, ℕ, cond, Bor, inl, inr, List, [], ◌∷◌, ◌++◌, Option, ap}
+use Rattle.std.proofs.Common.{append-nil, arith, fold, map, refl, suc, sym, unwrap_or, zero}
 use Rattle.std.specs.List.{flat_map, range_with_len}
 use Rattle.std.specs.Map.{keys_of, lookup}
 use Rattle.std.specs.Str.{bytes_eq}
 use Rattle.std.proofs.lemmas.Bool.{cases_Bool}
-use Rattle.std.proofs.lemmas.List.{map-append}
-use Rattle.std.proofs.lemmas.Option.{slice_get-map}
 use Rattle.std.proofs.lemmas.List.Sums.{fold-append}
 use Rattle.std.proofs.lemmas.List.Concat.{flat_map-append}
 use Rattle.std.proofs.lemmas.Slice.Eq.{bytes_eq-Decides}
 use Rattle.indexmap.specs.IndexMap.{insert_entry}
 use Rattle.indexmap.specs.IndexSet.{insert_all, insert_key}
-use Rattle.smap_view_page.specs.Amounts.{Line, added, capped, found, line, lines, lines_of, named, names, nothing, plus}
+use Rattle.smap_view_page.specs.Amounts.{Line, added, capped, found, lines_of, named, names, nothing, plus}
 use Rattle.smap_view_page.specs.Amounts.{read_out, summed, table_of, total}
-use Rattle.smap_view_page.specs.Folders.{is_passed, told_at}
 use Rattle.smap_view_page.specs.declared.amounts.Amounts.{Amounts}
-use Rattle.smap_view_page.specs.declared.amounts.Row.{Row}
 
 abbrev Text : Type 0
 Text = List ℕ
@@ -166,7 +161,7 @@ keys_are ks es is = ap (map (λ (k : Bor Text). k.now)) is ∙ texts_are es
 
 -- ---- loops
 
-pub ranged : (a n : ℕ) → range_with_len a (suc n) ≡ range_with_len a n ++ (a + n) ∷ []
+ranged : (a n : ℕ) → range_with_len a (suc n) ≡ range_with_len a n ++ (a + n) ∷ []
 ranged a zero = let e : a ≡ a + 0 = omega arith in ap (λ k. k ∷ []) e
 ranged a (suc n) =
     let e : a + 1 + n ≡ a + suc n = omega arith in
@@ -197,16 +192,3 @@ next_told old new f i more so_far = rw (
   next_number i,
   flat_map-append f (range_with_len 0 i) (i ∷ []),
 ) (ap (λ ls. flat_map f (range_with_len 0 i) ++ ls) (sym (append-nil (f i))))
-
--- ---- what is pushed
-
-pub pushed : (old rows : List Row) (i : ℕ) (r : Row) → is_passed (lines rows) i ≡ false
-    → slice_get rows i ≡ Some r → lines (old ++ r ∷ []) ≡ lines old ++ told_at (lines rows) i
-pushed old rows i r told at = rw (told, slice_get-map line rows i, at) (map-append line old (r ∷ []))
-
-pub not_pushed : (old rows : List Row) (i : ℕ) → slice_get rows i ≡ None
-    → lines old ≡ lines old ++ told_at (lines rows) i
-not_pushed old rows i none =
-    let nothing_told : told_at (lines rows) i ≡ [] = rw (slice_get-map line rows i, none)
-    (elim (cases_Bool (is_passed (lines rows) i)) [ inl e ↦ rw e refl | inr e ↦ rw e refl ]) in
-    rw nothing_told (sym (append-nil (lines old)))

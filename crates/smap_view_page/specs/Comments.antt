@@ -11,4 +11,5 @@ opens text = starts_with nat_eq text (codes "//# sourceMappingURL=data:")
 
 -- the place of the last one, or the end of the text
 abbrev pub code_length : List ℕ → ℕ
-code_length text = last_or (length text) (filter (λ at. opens (drop at text)) (range_with_len 0 (length text)))
+code_length text =
+    last_or (length text) (filter (λ at. opens (drop at text)) (range_with_len 0 (length text)))

@@ -39,8 +39,8 @@ abbrev pub is_passed : List Line → ℕ → Bool
 is_passed ls i = passes (slice_get ls i) (slice_get ls (i + 1))
 
 -- A folder that has but another one in it is passed over.
-abbrev pub told_at : List Line → ℕ → List Line
-told_at ls i = cond (is_passed ls i) [] (option_to_list (slice_get ls i))
+abbrev pub told_at : List Line → ℕ → Option Line
+told_at ls i = cond (is_passed ls i) None (slice_get ls i)
 
 abbrev pub folders : List Line → List Line
-folders ls = flat_map (told_at (sums ls)) (range_with_len 0 (length (sums ls)))
+folders ls = flat_map (λ i. option_to_list (told_at (sums ls) i)) (range_with_len 0 (length (sums ls)))

@@ -1,8 +1,8 @@
 //! What the page of `smap-view` holds of a map and its script: mappings as numbers ([`mappings_text`]), how
 //! many bytes of the script each source has ([`measured`]), and the JSON of both ([`map_json`],
 //! [`text_json`]), written so that nothing in it ends an element of HTML ([`embedded`]). The page has no rule
-//! of the format then: it reads no mappings string, no fault line and no map. What sources, folders and builds
-//! have together is summed by their names ([`summed`], [`folders`]).
+//! of the format then: it reads no mappings string, no fault line and no map. What sources and folders have
+//! together, also of two builds, is summed by their names ([`summed`], [`folders`]).
 //!
 //! Nothing is opened here.
 #![tactic(auto)]

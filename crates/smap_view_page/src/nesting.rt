@@ -1,5 +1,5 @@
 //! What the folders have that sources are in.
-ghost use Rattle.std.specs.Prelude.{◌≡◌, ◌++◌, IfOk, OnOk, fold, option_map};
+ghost use Rattle.std.specs.Prelude.{◌≡◌, ◌++◌, IfOk, OnOk, fold, option_map, option_to_list};
 ghost use Rattle.std.specs.List.{flat_map};
 ghost use Rattle.smap_view_page.specs.Amounts as sums;
 ghost use Rattle.smap_view_page.specs.Folders as spec;
@@ -99,18 +99,31 @@ fn is_passed(rows: &[Row<'_>], i: usize) -> bool
     }
 }
 
+/// The folder with this number, unless it is passed over.
+fn told_row<'a>(rows: &[Row<'a>], i: usize) -> Option<Row<'a>>
+    ensures { option_map sums.line result ≡ spec.told_at (sums.lines rows.now) i }
+{
+    if is_passed(rows, i) {
+        return None;
+    }
+    match rows.get(i) {
+        Some(row) => Some(*row),
+        None => None,
+    }
+}
+
 /// Appends the folder with this number, unless it is passed over.
 fn push_told<'a>(told: &mut Vec<Row<'a>>, rows: &[Row<'a>], i: usize) -> Result<(), AllocError>
     ensures { OnOk result (sums.lines told.new.items
-        ≡ sums.lines told.old.items ++ spec.told_at (sums.lines rows.now) i) }
+        ≡ sums.lines told.old.items ++ option_to_list (spec.told_at (sums.lines rows.now) i)) }
 {
-    if is_passed(rows, i) {
-        return Ok(());
+    match told_row(rows, i) {
+        Some(row) => {
+            told.push(row)?;
+            Ok(())
+        }
+        None => Ok(()),
     }
-    if let Some(row) = rows.get(i) {
-        told.push(*row)?;
-    }
-    Ok(())
 }
 
 /// The folders that sources are in, in the order of their first sources, with what is in each and below it.

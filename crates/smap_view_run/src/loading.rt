@@ -188,10 +188,12 @@ fn load_found<E: Eprint + AllocGlobal, D: Disk>(
             return refuse_map(host, found, &base, url_bytes, &fault);
         }
     };
-    let Script { path, bytes, code } =
-        script_for(host, found.path.as_str(), &map, script, named)?;
+    let Script { path, bytes, code } = script_for(host, found.path.as_str(), &map, script, named)?;
     let name = parted(path.as_str()).1;
-    let (script, place) = (String::from_str(alloc, name)?, String::from_str(alloc, name)?);
+    let (script, place) = (
+        String::from_str(alloc, name)?,
+        String::from_str(alloc, name)?,
+    );
     let text = text_of(host, path.as_str(), bytes)?;
     Ok(Loaded {
         map: found.name,

@@ -6,4 +6,5 @@ use Rattle.smap_view_page.proofs.nesting.add_folders.Given as goal
 
 abbrev pub invariant-loop-at : goal.invariant-loop-at
 invariant-loop-at l = lines_of l.table.entries
-    ≡ fold added (lines_of l.initial.table.entries) (flat_map (lines_at (l.name, l.amounts)) (range_with_len 0 l.at))
+    ≡ fold added (lines_of l.initial.table.entries)
+    (flat_map (lines_at (l.name, l.amounts)) (range_with_len 0 l.at))
