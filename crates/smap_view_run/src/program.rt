@@ -187,6 +187,8 @@ fn write_file<E: Eprint + AllocGlobal, D: Disk>(
 /// What was measured of several scripts.
 #[derive(Drop)]
 struct Noted {
+    /// Whether parts are kept, as what is shown of all together needs them.
+    keeps_parts: bool,
     parts: Vec<Part>,
     /// Their paths.
     places: Vec<String>,
@@ -206,8 +208,10 @@ fn measure<E: Eprint + AllocGlobal, D: Disk, W: Write>(
     if let Content::Map(map, _) = &loaded.content {
         budget.count(map, &measures.sizes, measures.all);
     }
-    let script = noted.places.len();
-    note(alloc, &mut noted.parts, loaded, &measures, script)?;
+    if noted.keeps_parts {
+        let script = noted.places.len();
+        note(alloc, &mut noted.parts, loaded, &measures, script)?;
+    }
     noted
         .places
         .push(String::from_str(alloc, loaded.place.as_str())?)?;
@@ -255,6 +259,7 @@ fn write_sizes<E: Eprint + AllocGlobal, D: Disk, W: Write>(
     let (mut verdict, form) = (job.verdict(), asked.sizes());
     let each = if job.other.is_some() { None } else { form };
     let mut noted = Noted {
+        keeps_parts: job.other.is_some() || form == Some(SizesForm::Table),
         parts: Vec::new(alloc),
         places: Vec::new(alloc),
     };
