@@ -1,6 +1,6 @@
 -- Folders of sources, and what they have.
 use Rattle.std.specs.Prelude.{ℕ, ◌+◌, ◌==◌, ◌&&◌, ◌||◌, Bool, cond, false, not, nat_le, nat_lt}
-use Rattle.std.specs.Prelude.{List, [], get_or, length, map, min, nat_eq, take, slice_index}
+use Rattle.std.specs.Prelude.{List, get_or, length, map, min, nat_eq, take, slice_index}
 use Rattle.std.specs.Prelude.{Option, Some, None, option_to_list, slice_get}
 use Rattle.std.specs.List.{flat_map, range_with_len, starts_with}
 use Rattle.smap_view_page.specs.Amounts.{Line, summed}

@@ -1,4 +1,3 @@
-use Rattle.std.proofs.Common.{◌+◌, refl}
 use Rattle.smap_view_page.proofs.AmountLemmas.{one_more}
 use Rattle.smap_view_page.proofs.amounts.add_row.Goals as goal
 

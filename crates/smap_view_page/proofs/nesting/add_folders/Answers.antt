@@ -1,4 +1,3 @@
-use Rattle.std.proofs.Common.{refl}
 use Rattle.smap_view_page.specs.Amounts.{lines_of}
 use Rattle.smap_view_page.specs.Folders.{lines_at}
 use Rattle.smap_view_page.proofs.AmountLemmas.{next_place}
