@@ -16,7 +16,8 @@ same_last d (x ∷ xs) = same_last x xs
 
 pub next_last : (p : ℕ → Bool) (n i old new : ℕ) → new ≡ cond (p i) i old
     → old ≡ last_or n (filter p (range_with_len 0 i)) → new ≡ last_or n (filter p (range_with_len 0 (i + 1)))
-next_last p n i old new is so_far = rw (is, so_far, next_number i, filter-append p (range_with_len 0 i) (i ∷ []))
+next_last p n i old new is so_far =
+    rw (is, so_far, next_number i, filter-append p (range_with_len 0 i) (i ∷ []))
     (elim (cases_Bool (p i)) [
       | inl passes ↦ rw passes (sym (last_of n (filter p (range_with_len 0 i)) i))
       | inr fails ↦ rw fails (sym (same_last n (filter p (range_with_len 0 i))))
