@@ -1,5 +1,6 @@
 """Tests of the bytes by source: areas, folders and the table."""
 
+import base64
 import gzip
 import json
 import time
@@ -299,6 +300,74 @@ def all_scripts(browser, folder):
     width = browser.run("return document.querySelector('thead th').getBoundingClientRect().width")
     browser.size(1280, 800)
     assert width >= 100, width
+
+
+def comment_with_map(browser, folder):
+    """A map that its script holds is no code without a mapping."""
+    text = json.dumps({"version": 3, "sources": ["a.js"], "mappings": "AAAA"}).encode()
+    comment = f"//# sourceMappingURL=data:application/json;base64,{base64.b64encode(text).decode()}\n"
+    (folder / "inline.js").write_text(f"f();\n{comment}")
+    url = make_page(folder, "inline", "--base", "http://h/m", "inline.js")
+    open_bytes(browser, url)
+    browser.run(FLAT)
+    rows = [row[:2] for row in browser.run(TABLE)]
+    equal(rows, [["the comment with the map", str(len(comment))], ["a.js", "5"]])
+    caption = browser.run("return document.getElementById('caption').textContent")
+    equal(caption, f"{len(comment) + 5} bytes of inline.js")
+
+
+BUILDS = {"before": {"src/a.js": 100, "src/b.js": 200, "lib/gone.js": 50, "lib/same.js": 9},
+          "after": {"src/a.js": 160, "src/b.js": 120, "lib/new.js": 90, "lib/same.js": 9}}
+
+
+def make_growth(folder):
+    """A page of two builds, whose sources and their bytes are known."""
+    for build, sizes in BUILDS.items():
+        (folder / build).mkdir(exist_ok=True)
+        made = pages.Maker()
+        for number, size in enumerate(sizes.values()):
+            made.add("x" * (size - 1) + ";", number, 0, 0)
+        made.write(folder / build, f"{build}.js", sources=list(sizes))
+    return make_page(folder, "growth", "--base", "http://h/m", "--compare", "before", "after")
+
+
+def growth(browser, folder):
+    """What grew, shrank, came and went since another build, as areas and as a table."""
+    url = make_growth(folder)
+    open_bytes(browser, url, "")
+    equal(browser.run("return location.hash"), "#growth")
+    equal(browser.run(PATH), ["growth +20 bytes, 359 to 379"])
+    equal(browser.run("return document.getElementById('caption').textContent"),
+          "+20 bytes, 359 to 379, since before")
+    heads = browser.run("return [...document.querySelectorAll('thead button')].map(one => one.textContent)")
+    equal(heads[:4], ["Source", "Growth", "Before", "Now"])
+    equal(browser.run(TABLE), [["lib/", "+40", "59", "99"], ["src/", "\u221220", "300", "280"]])
+    browser.run(FLAT)
+    equal(browser.run(TABLE), [["lib/new.jsnew", "+90", "0", "90"], ["src/a.js", "+60", "100", "160"],
+                               ["lib/same.js", "0", "9", "9"], ["lib/gone.jsgone", "\u221250", "50", "0"],
+                               ["src/b.js", "\u221280", "200", "120"]])
+    leaves = browser.run("""
+        return [...document.querySelectorAll('#tree > :not(.folder)')].map(area =>
+            [area.title, area.className, Number(area.dataset.bytes)]).sort();""")
+    equal(leaves, [["lib/gone.js: \u221250 bytes, 50 to 0", "shrank", 50],
+                   ["lib/new.js: +90 bytes, 0 to 90", "grew", 90],
+                   ["src/a.js: +60 bytes, 100 to 160", "grew", 60],
+                   ["src/b.js: \u221280 bytes, 200 to 120", "shrank", 80]])
+    # a folder has an address, and a source is shown
+    browser.run(FLAT)
+    open_folder(browser, "src/")
+    equal(browser.run("return location.hash"), "#growth=src/")
+    equal(browser.run(PATH), ["growth +20 bytes, 359 to 379", "src/ \u221220 bytes, 300 to 280"])
+    browser.run("""
+        [...document.querySelectorAll('#tree > button')].find(one => one.title.startsWith('src/b.js'))
+            .click();""")
+    assert " of http://h/m/src/b.js" in status(browser), status(browser)
+    # the same page has the bytes of the new build
+    open_bytes(browser, url, "#growth")
+    browser.run("document.getElementById('grown').click()")
+    equal(browser.run("return location.hash"), "#bytes")
+    equal(browser.run(PATH), ["all 379 bytes"])
+    equal(browser.run("return document.getElementById('grown').getAttribute('aria-pressed')"), "false")
 
 
 def many_areas(browser, folder, note):

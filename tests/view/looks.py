@@ -34,13 +34,14 @@ CONTRASTS = """
     return [found, getComputedStyle(document.body).backgroundColor];"""
 
 
-def contrasts(browser, url, refused):
-    """Each text has a contrast of at least 4.5 to 1 to what is behind it, in both schemes, in each colour."""
+def contrasts(browser, url, refused, growth):
+    """Each text has a contrast of at least 4.5 to 1 to what is behind it, in both schemes, in each colour, also
+    of what grew or shrank."""
     grounds = set()
     for scheme in "light", "dark":
         browser.scheme(scheme)
         kinds = set()
-        for page in f"{url}#generated=4:5", f"{url}#bytes", refused:
+        for page in f"{url}#generated=4:5", f"{url}#bytes", refused, growth:
             browser.open("about:blank")
             browser.open(page)
             browser.run("""

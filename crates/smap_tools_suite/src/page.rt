@@ -1,7 +1,10 @@
 //! What a page holds of a small map, by hand.
-use crate::asserted::equal;
+use crate::asserted::{equal, holds};
 use smap_record::{Base, Limits, SourceMap};
-use smap_view_page::{embedded, map_json, mappings_text, measured, text_json};
+use smap_view_page::{
+    Amounts, Row, by_growth, code_length, embedded, folders, map_json, mappings_text, measured,
+    share, summed, text_json,
+};
 use std::alloc::Global;
 use std::test::Fail;
 
@@ -49,4 +52,65 @@ fn texts_end_no_element(rt: HostRuntime) -> Result<(), Fail> {
         wanted,
     );
     Ok(())
+}
+
+fn row(name: &str, old: u64, bytes: u64) -> Row<'_> {
+    Row {
+        name,
+        amounts: Amounts {
+            old,
+            bytes,
+            mappings: 1,
+            parts: 1,
+        },
+    }
+}
+
+/// Whether a row has this name and these bytes, before and now.
+fn has(rows: &[Row<'_>], i: usize, name: &str, old: u64, bytes: u64) -> bool {
+    match rows.get(i) {
+        Some(row) => { row.name == name && row.amounts.old == old && row.amounts.bytes == bytes }
+        None => false,
+    }
+}
+
+#[test]
+fn rows_of_one_name_are_summed(rt: HostRuntime) -> Result<(), Fail> {
+    let rows = [
+        row("b", 0, 3),
+        row("a", 0, 2),
+        row("b", 4, 0),
+        row("a", u64::MAX, 1),
+    ];
+    let mut sums = summed(rt.alloc(), &rows)?;
+    holds(
+        &rt,
+        has(&sums, 0, "b", 4, 3) && has(&sums, 1, "a", u64::MAX, 3),
+    );
+    by_growth(&mut sums)?;
+    holds(&rt, has(&sums, 0, "b", 4, 3) && sums.len() == 2);
+    Ok(())
+}
+
+#[test]
+fn folders_have_what_is_in_them(rt: HostRuntime) -> Result<(), Fail> {
+    let rows = [
+        row("x://m/p/q/a", 0, 3),
+        row("x://m/p/b", 1, 2),
+        row("c", 0, 9),
+    ];
+    let sums = folders(rt.alloc(), &rows)?;
+    holds(
+        &rt,
+        has(&sums, 0, "x://m/p/", 1, 5) && has(&sums, 1, "x://m/p/q/", 0, 3),
+    );
+    equal(&rt, sums.len(), 2);
+    Ok(())
+}
+
+#[test]
+fn shares_are_rounded_and_the_map_is_apart(rt: HostRuntime) {
+    equal(&rt, (share(4, 11), share(1, 3), share(5, 0)), (364, 333, 0));
+    let script = b"f()\n/*# sourceMappingURL=data:x,y*/\n";
+    equal(&rt, (code_length(script), code_length(b"f()")), (4, 3));
 }

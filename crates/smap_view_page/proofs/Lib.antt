@@ -1,3 +1,5 @@
+pub mod AmountLemmas
+pub mod CommentLemmas
 pub mod EmbeddingLemmas
 pub mod OwnerLemmas
 pub mod PlaceLemmas

@@ -1,8 +1,12 @@
+pub mod Amounts
 pub mod Bytes
+pub mod Comments
 pub mod Cursors
 pub mod Embedding
+pub mod Folders
 pub mod Numbers
 pub mod Owners
 pub mod Places
+pub mod Shares
 pub mod Steps
 pub mod Trees

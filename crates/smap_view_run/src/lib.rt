@@ -7,10 +7,12 @@
 #![tactic(auto)]
 
 mod budget;
+mod comparing;
 mod files;
 mod folders;
 mod loading;
 mod page;
+mod parts;
 mod program;
 mod refusals;
 mod scripts;

@@ -7,6 +7,7 @@ use smap_link::{FileKind, file_kind, script_url};
 use smap_map_files::{Home, LinkProblem, MapText, ScriptMap, folder_url, is_within, map_of};
 use smap_record::{Base, BaseFault, Fault, Limits, ReadError, SourceMap};
 use smap_system::{Disk, Host, Stop, parted};
+use smap_view_page::code_length;
 
 /// How maps are read.
 #[derive(Clone, Copy)]
@@ -51,6 +52,10 @@ pub(crate) struct Loaded {
     pub(crate) url: String,
     /// The name of the script's file; empty where the map is refused.
     pub(crate) script: String,
+    /// The path of the script below the folder that is named, or its name.
+    pub(crate) place: String,
+    /// How many bytes of the script stand before the comment that holds its map.
+    pub(crate) code: usize,
     pub(crate) content: Content,
 }
 
@@ -71,6 +76,8 @@ struct Found {
 struct Script {
     path: String,
     bytes: Vec<u8>,
+    /// How many bytes stand before the comment that holds its map.
+    code: usize,
 }
 
 /// Says why a map is refused, with words that follow that.
@@ -89,6 +96,8 @@ fn refuse<E: Eprint + AllocGlobal, D: Disk>(
         map: found.name,
         url: found.url,
         script: String::new(alloc),
+        place: String::new(alloc),
+        code: 0,
         content: Content::Refused(error, place),
     })
 }
@@ -156,7 +165,8 @@ fn script_for<E: Eprint + AllocGlobal, D: Disk>(
         None => script_of(host, map_path, map)?,
     };
     let bytes = read_named(host, path.as_str())?;
-    Ok(Script { path, bytes })
+    let code = bytes.len();
+    Ok(Script { path, bytes, code })
 }
 
 /// Reads a map that was found, and its script.
@@ -178,13 +188,19 @@ fn load_found<E: Eprint + AllocGlobal, D: Disk>(
             return refuse_map(host, found, &base, url_bytes, &fault);
         }
     };
-    let Script { path, bytes } = script_for(host, found.path.as_str(), &map, script, named)?;
-    let name = String::from_str(alloc, parted(path.as_str()).1)?;
+    let Script { path, bytes, code } = script_for(host, found.path.as_str(), &map, script, named)?;
+    let name = parted(path.as_str()).1;
+    let (script, place) = (
+        String::from_str(alloc, name)?,
+        String::from_str(alloc, name)?,
+    );
     let text = text_of(host, path.as_str(), bytes)?;
     Ok(Loaded {
         map: found.name,
         url: found.url,
-        script: name,
+        script,
+        place,
+        code,
         content: Content::Map(map, text),
     })
 }
@@ -287,7 +303,12 @@ fn load_script<E: Eprint + AllocGlobal, D: Disk>(
     let path = format!(in alloc; "{folder}{name}")?;
     let bytes = read_script(host, home, path.as_str(), found)?;
     let (map, problem) = map_of(alloc, host.disk, home, name, &bytes)?;
-    let map = match own_map(host, home, map)? {
+    let map = own_map(host, home, map)?;
+    let code = match &map {
+        ScriptMap::Inline(_) => code_length(&bytes),
+        _ => bytes.len(),
+    };
+    let map = match map {
         ScriptMap::Named(map) | ScriptMap::Beside(map) => found_in(host, home, map.as_str())?,
         ScriptMap::Inline(map) => Found {
             path: String::from_str(alloc, path.as_str())?,
@@ -299,8 +320,12 @@ fn load_script<E: Eprint + AllocGlobal, D: Disk>(
         ScriptMap::Nothing if found => return Ok(None),
         ScriptMap::Nothing => return Err(fail_alone(host, path.as_str(), problem)),
     };
-    let script = Some(Script { path, bytes });
-    Ok(Some(load_found(host, map, reading.url_bytes, script, None)?))
+    let script = Some(Script { path, bytes, code });
+    let mut loaded = load_found(host, map, reading.url_bytes, script, None)?;
+    if found {
+        loaded.place = String::from_str(alloc, name)?;
+    }
+    Ok(Some(loaded))
 }
 
 /// Reads what is to be looked at: nothing where a script that was found in a folder has no map.

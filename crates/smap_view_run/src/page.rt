@@ -1,9 +1,10 @@
 //! The page of one script or several.
 use crate::loading::{Content, Loaded};
+use crate::parts::Measures;
 use serde_json::{Value, json};
 use smap_record::SourceMap;
 use smap_system::{Disk, Host, Stop, Watched};
-use smap_view_page::{embedded, map_json, measured, text_json};
+use smap_view_page::{embedded, map_json, text_json};
 use std::alloc::{AllocError, Global};
 use std::io::Write;
 
@@ -23,9 +24,15 @@ struct Names<'a> {
     script: &'a str,
 }
 
-/// What a page says of a map.
-fn about(alloc: Global, names: Names<'_>, refused: Value) -> Result<Vec<u8>, AllocError> {
+/// What a page says of a map, and how many bytes of the script are a comment with it.
+fn about(
+    alloc: Global,
+    names: Names<'_>,
+    comment: u64,
+    refused: Value,
+) -> Result<Vec<u8>, AllocError> {
     let value = json!(in alloc; {
+        "comment": comment,
         "map": names.map,
         "refused": refused,
         "script": names.script,
@@ -44,11 +51,11 @@ fn map_data(
     names: Names<'_>,
     map: &SourceMap,
     text: &str,
+    measures: &Measures,
 ) -> Result<Data, AllocError> {
-    let sizes = measured(alloc, map, text)?;
     Ok(Data {
-        about: about(alloc, names, Value::Null)?,
-        map: map_json(alloc, map, &sizes)?,
+        about: about(alloc, names, measures.comment, Value::Null)?,
+        map: map_json(alloc, map, &measures.sizes)?,
         text: text_json(alloc, text.strip_prefix('\u{feff}').unwrap_or(text))?,
     })
 }
@@ -61,27 +68,25 @@ fn refused_data(
 ) -> Result<Data, AllocError> {
     let refused = json!(in alloc; {"error": error, "place": place})?;
     Ok(Data {
-        about: about(alloc, names, refused)?,
+        about: about(alloc, names, 0, refused)?,
         map: nothing(alloc)?,
         text: nothing(alloc)?,
     })
 }
 
-/// The data of a map that was read. A byte order mark isn't part of the text.
-pub(crate) fn data_of(alloc: Global, loaded: Loaded) -> Result<Data, AllocError> {
-    let Loaded {
-        map,
-        url,
-        script,
-        content,
-    } = loaded;
+/// The data of a map that was read, with what was measured. A byte order mark isn't part of the text.
+pub(crate) fn data_of(
+    alloc: Global,
+    loaded: Loaded,
+    measures: &Measures,
+) -> Result<Data, AllocError> {
     let names = Names {
-        map: &map,
-        url: &url,
-        script: &script,
+        map: &loaded.map,
+        url: &loaded.url,
+        script: &loaded.script,
     };
-    match content {
-        Content::Map(map, text) => map_data(alloc, names, &map, &text),
+    match loaded.content {
+        Content::Map(map, text) => map_data(alloc, names, &map, &text, measures),
         Content::Refused(error, place) => refused_data(alloc, names, &error, place),
     }
 }
@@ -104,6 +109,18 @@ fn write_element<E: Eprint + AllocGlobal, D: Disk, W: Write>(
     host.write(begin.as_bytes(), writer)?;
     host.write(json, writer)?;
     host.write(b"</script>\n", writer)
+}
+
+/// Writes the element of what has grown since another build.
+pub(crate) fn write_growth<E: Eprint + AllocGlobal, D: Disk, W: Write>(
+    host: &Host<'_, E, D>,
+    growth: &Value,
+    writer: &mut Watched<W>,
+) -> Result<(), Stop> {
+    let alloc = host.alloc();
+    let text = growth.to_string(alloc)?;
+    let json = embedded(alloc, &text)?;
+    write_element(host, "growth", 1, &json, writer)
 }
 
 /// Writes the elements of a script, which has this number on the page, from 1.

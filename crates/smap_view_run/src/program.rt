@@ -1,16 +1,18 @@
 //! A run of `smap-view`.
 use crate::budget::Budget;
+use crate::comparing::{Builds, growth_sizes, growth_value};
 use crate::folders::{scripts_in, with_slash};
 use crate::loading::{Content, Item, Loaded, Reading, item_of, load};
-use crate::page::{data_of, write_data};
-use crate::sizing::sizes_text;
+use crate::page::{data_of, write_data, write_growth};
+use crate::parts::{Measures, Part, as_old, measures_of, push_parts};
+use crate::sizing::{all_text, sizes_text};
 use crate::status::Verdict;
 use crate::template::{parts, read_template};
 use smap_command_line::VERSION;
 use smap_command_line::view::{Asked, HELP, SizesForm, ViewWords, WordFault, message, view_words};
-use smap_map_files::{base_given, refuse_options};
-use smap_system::{Disk, Host, Kind, Stop, Watched, create_beside};
-use smap_view_page::measured;
+use smap_map_files::{base_given, folder_url, refuse_options};
+use smap_system::{Disk, Host, Kind, Stop, Watched, create_beside, parted};
+use std::alloc::{AllocError, Global};
 use std::io::Write;
 
 /// What a run does.
@@ -20,17 +22,38 @@ struct Job<'a> {
     given: &'a str,
     reading: Reading<'a>,
     items: &'a [Item<'a>],
+    /// The build that this one is compared with.
+    other: Option<&'a Other<'a>>,
+}
+
+/// A build that another one is compared with.
+#[derive(Drop)]
+struct Other<'a> {
+    name: &'a str,
+    parts: Vec<Part>,
+    /// What was found wrong with it.
+    verdict: Verdict,
+}
+
+impl Job<'_> {
+    /// What was found wrong before anything is shown.
+    fn verdict(&self) -> Verdict {
+        match self.other {
+            Some(other) => other.verdict,
+            None => Verdict::new(),
+        }
+    }
 }
 
 /// What there is to show of an item. Of the scripts of a folder nothing is shown if there is no map, or if it
 /// can't be shown, as it is said then: it is left out, and the others are shown.
 fn loaded<E: Eprint + AllocGlobal, D: Disk>(
     host: &Host<'_, E, D>,
-    job: &Job<'_>,
+    reading: Reading<'_>,
     item: Item<'_>,
     verdict: &mut Verdict,
 ) -> Result<Option<Loaded>, Stop> {
-    match (load(host, job.reading, item), item) {
+    match (load(host, reading, item), item) {
         (Err(Stop::Reported(status)), Item::Script { found: true, .. }) => {
             *verdict = verdict.with_left_out(status);
             Ok(None)
@@ -46,10 +69,9 @@ fn loaded<E: Eprint + AllocGlobal, D: Disk>(
 /// Says that there is nothing to show. Why scripts were left out has been said.
 fn fail_empty<E: Eprint + AllocGlobal, D: Disk>(
     host: &Host<'_, E, D>,
-    job: &Job<'_>,
+    given: &str,
     verdict: Verdict,
 ) -> Stop {
-    let given = job.given;
     let (status, what) = match verdict.status() {
         0 => (2, "no script with a map in"),
         status => (status, "nothing that can be shown in"),
@@ -60,6 +82,43 @@ fn fail_empty<E: Eprint + AllocGlobal, D: Disk>(
     }
 }
 
+/// Notes the parts of a script, if it has a map that can be shown.
+fn note(
+    alloc: Global,
+    parts: &mut Vec<Part>,
+    loaded: &Loaded,
+    measures: &Measures,
+    script: usize,
+) -> Result<(), AllocError> {
+    match &loaded.content {
+        Content::Map(map, _) => push_parts(alloc, parts, map, measures, script),
+        Content::Refused(..) => Ok(()),
+    }
+}
+
+/// The parts of both builds, if there are two.
+fn builds_of<'a>(job: &Job<'a>, noted: &'a [Part]) -> Option<Builds<'a>> {
+    let other = job.other?;
+    Some(Builds {
+        name: other.name,
+        old: &other.parts,
+        new: noted,
+    })
+}
+
+/// Writes what has grown, if there are two builds.
+fn write_other<E: Eprint + AllocGlobal, D: Disk, W: Write>(
+    host: &Host<'_, E, D>,
+    job: &Job<'_>,
+    noted: &[Part],
+    writer: &mut Watched<W>,
+) -> Result<(), Stop> {
+    match builds_of(job, noted) {
+        Some(builds) => write_growth(host, &growth_value(host.alloc(), builds)?, writer),
+        None => Ok(()),
+    }
+}
+
 /// Writes the page into its template.
 fn write_page<E: Eprint + AllocGlobal, D: Disk, W: Write>(
     host: &Host<'_, E, D>,
@@ -67,14 +126,19 @@ fn write_page<E: Eprint + AllocGlobal, D: Disk, W: Write>(
     template: &str,
     writer: &mut Watched<W>,
 ) -> Result<Verdict, Stop> {
+    let alloc = host.alloc();
     let (head, tail) = parts(template);
-    let mut verdict = Verdict::new();
+    let (mut verdict, mut noted) = (job.verdict(), Vec::new(alloc));
     let mut shown: usize = 0;
     for item in job.items {
-        let Some(loaded) = loaded(host, job, *item, &mut verdict)? else {
+        let Some(loaded) = loaded(host, job.reading, *item, &mut verdict)? else {
             continue;
         };
-        let data = data_of(host.alloc(), loaded)?;
+        let measures = measures_of(alloc, &loaded)?;
+        if job.other.is_some() {
+            note(alloc, &mut noted, &loaded, &measures, shown)?;
+        }
+        let data = data_of(alloc, loaded, &measures)?;
         // nothing is written before there is something to show
         if shown == 0 {
             host.write(head.as_bytes(), writer)?;
@@ -83,8 +147,9 @@ fn write_page<E: Eprint + AllocGlobal, D: Disk, W: Write>(
         write_data(host, shown, &data, writer)?;
     }
     if shown == 0 {
-        return Err(fail_empty(host, job, verdict));
+        return Err(fail_empty(host, job.given, verdict));
     }
+    write_other(host, job, &noted, writer)?;
     host.write(tail.as_bytes(), writer)?;
     Ok(verdict)
 }
@@ -119,25 +184,64 @@ fn write_file<E: Eprint + AllocGlobal, D: Disk>(
     }
 }
 
-/// Writes the sizes of a script, if they are asked for, and counts them.
+/// What was measured of several scripts.
+#[derive(Drop)]
+struct Noted {
+    /// Whether parts are kept, as what is shown of all together needs them.
+    keeps_parts: bool,
+    parts: Vec<Part>,
+    /// Their paths.
+    places: Vec<String>,
+}
+
+/// Counts a script, and writes its sizes, if they are asked for and aren't compared.
 fn measure<E: Eprint + AllocGlobal, D: Disk, W: Write>(
     host: &Host<'_, E, D>,
     form: Option<SizesForm>,
+    noted: &mut Noted,
     budget: &mut Budget,
     loaded: &Loaded,
     writer: &mut Watched<W>,
 ) -> Result<(), Stop> {
     let alloc = host.alloc();
-    let Content::Map(map, text) = &loaded.content else {
-        return Ok(());
-    };
-    let sizes = measured(alloc, map, text)?;
-    budget.count(map, &sizes, text.len() as u64);
-    let Some(form) = form else {
-        return Ok(());
-    };
-    let text = sizes_text(alloc, form, loaded, &sizes)?;
-    host.write(text.as_bytes(), writer)
+    let measures = measures_of(alloc, loaded)?;
+    if let Content::Map(map, _) = &loaded.content {
+        budget.count(map, &measures.sizes, measures.all);
+    }
+    if noted.keeps_parts {
+        let script = noted.places.len();
+        note(alloc, &mut noted.parts, loaded, &measures, script)?;
+    }
+    noted
+        .places
+        .push(String::from_str(alloc, loaded.place.as_str())?)?;
+    match form {
+        Some(form) => {
+            let text = sizes_text(alloc, form, loaded, &measures)?;
+            host.write(text.as_bytes(), writer)
+        }
+        None => Ok(()),
+    }
+}
+
+/// Writes what several scripts or two builds have together.
+fn write_together<E: Eprint + AllocGlobal, D: Disk, W: Write>(
+    host: &Host<'_, E, D>,
+    form: SizesForm,
+    job: &Job<'_>,
+    noted: &mut Noted,
+    writer: &mut Watched<W>,
+) -> Result<(), Stop> {
+    let alloc = host.alloc();
+    if let Some(builds) = builds_of(job, &noted.parts) {
+        let text = growth_sizes(alloc, form, job.given, builds)?;
+        return host.write(text.as_bytes(), writer);
+    }
+    if form == SizesForm::Table && noted.places.len() > 1 {
+        let text = all_text(alloc, &mut noted.parts, &noted.places)?;
+        return host.write(text.as_bytes(), writer);
+    }
+    Ok(())
 }
 
 /// Writes the sizes of all scripts, and compares them with the budget.
@@ -147,21 +251,29 @@ fn write_sizes<E: Eprint + AllocGlobal, D: Disk, W: Write>(
     asked: &ViewWords<'_>,
     writer: &mut Watched<W>,
 ) -> Result<Verdict, Stop> {
+    let alloc = host.alloc();
     let mut budget = match asked.options.text("budget") {
         Some(path) => Budget::read(host, path)?,
-        None => Budget::none(host.alloc()),
+        None => Budget::none(alloc),
     };
-    let mut verdict = Verdict::new();
-    let mut shown = false;
+    let (mut verdict, form) = (job.verdict(), asked.sizes());
+    let each = if job.other.is_some() { None } else { form };
+    let mut noted = Noted {
+        keeps_parts: job.other.is_some() || form == Some(SizesForm::Table),
+        parts: Vec::new(alloc),
+        places: Vec::new(alloc),
+    };
     for item in job.items {
-        let Some(loaded) = loaded(host, job, *item, &mut verdict)? else {
+        let Some(loaded) = loaded(host, job.reading, *item, &mut verdict)? else {
             continue;
         };
-        shown = true;
-        measure(host, asked.sizes(), &mut budget, &loaded, writer)?;
+        measure(host, each, &mut noted, &mut budget, &loaded, writer)?;
     }
-    if !shown {
-        return Err(fail_empty(host, job, verdict));
+    if noted.places.is_empty() {
+        return Err(fail_empty(host, job.given, verdict));
+    }
+    if let Some(form) = form {
+        write_together(host, form, job, &mut noted, writer)?;
     }
     verdict.over_budget = budget.tell(host)?;
     Ok(verdict)
@@ -190,6 +302,95 @@ fn show<E: Eprint + AllocGlobal, D: Disk, W: Write>(
     }
 }
 
+/// The scripts of a folder as items. `folder` ends in a slash.
+fn items_in<'a>(
+    alloc: Global,
+    folder: &'a str,
+    names: &'a [String],
+) -> Result<Vec<Item<'a>>, AllocError> {
+    let mut items = Vec::with_capacity(alloc, names.len())?;
+    for name in names {
+        items.push(Item::Script {
+            folder,
+            name: name.as_str(),
+            found: true,
+        })?;
+    }
+    Ok(items)
+}
+
+/// Reads the build that this one is compared with.
+fn read_items<'a, E: Eprint + AllocGlobal, D: Disk>(
+    host: &Host<'_, E, D>,
+    reading: Reading<'_>,
+    name: &'a str,
+    items: &[Item<'_>],
+) -> Result<Other<'a>, Stop> {
+    let alloc = host.alloc();
+    let (mut verdict, mut parts) = (Verdict::new(), Vec::new(alloc));
+    for item in items {
+        if let Some(loaded) = loaded(host, reading, *item, &mut verdict)? {
+            let measures = measures_of(alloc, &loaded)?;
+            note(alloc, &mut parts, &loaded, &measures, 0)?;
+        }
+    }
+    if parts.is_empty() {
+        return Err(fail_empty(host, name, verdict));
+    }
+    as_old(&mut parts);
+    Ok(Other {
+        name,
+        parts,
+        verdict,
+    })
+}
+
+/// Reads the build at a path, as if it were where the new one is.
+fn read_other<'a, E: Eprint + AllocGlobal, D: Disk>(
+    host: &Host<'_, E, D>,
+    reading: Reading<'_>,
+    new_folder: &str,
+    path: &'a str,
+) -> Result<Other<'a>, Stop> {
+    let alloc = host.alloc();
+    let url = folder_url(host, reading.base, new_folder)?;
+    let url = String::from_utf8_lossy(alloc, &url)?;
+    let reading = Reading {
+        base: Some(url.as_str()),
+        ..reading
+    };
+    if host.disk.kind(path) != Kind::Folder {
+        return read_items(host, reading, path, &[item_of(path, None)]);
+    }
+    let folder = with_slash(alloc, path)?;
+    let names = scripts_in(host, path, folder.as_str())?;
+    let items = items_in(alloc, folder.as_str(), &names)?;
+    read_items(host, reading, path, &items)
+}
+
+/// Shows items of this folder, compared with another build if one is named.
+fn compare<E: Eprint + AllocGlobal, D: Disk, W: Write>(
+    host: &Host<'_, E, D>,
+    program: &str,
+    asked: &ViewWords<'_>,
+    reading: Reading<'_>,
+    folder: &str,
+    items: &[Item<'_>],
+    writer: &mut Watched<W>,
+) -> Result<Verdict, Stop> {
+    let other = match asked.options.text("compare") {
+        Some(path) => Some(read_other(host, reading, folder, path)?),
+        None => None,
+    };
+    let job = Job {
+        given: asked.file,
+        reading,
+        items,
+        other: other.as_ref(),
+    };
+    show(host, program, asked, &job, writer)
+}
+
 /// Shows the scripts of a folder that have a map.
 fn show_folder<E: Eprint + AllocGlobal, D: Disk, W: Write>(
     host: &Host<'_, E, D>,
@@ -204,21 +405,10 @@ fn show_folder<E: Eprint + AllocGlobal, D: Disk, W: Write>(
         return Err(host.fail(2, text.as_str()));
     }
     let folder = with_slash(alloc, asked.file)?;
-    let names = scripts_in(host, asked.file, folder.as_str())?;
-    let mut items = Vec::with_capacity(alloc, names.len())?;
-    for name in &names {
-        items.push(Item::Script {
-            folder: folder.as_str(),
-            name: name.as_str(),
-            found: true,
-        })?;
-    }
-    let job = Job {
-        given: asked.file,
-        reading,
-        items: &items,
-    };
-    show(host, program, asked, &job, writer)
+    let folder = folder.as_str();
+    let names = scripts_in(host, asked.file, folder)?;
+    let items = items_in(alloc, folder, &names)?;
+    compare(host, program, asked, reading, folder, &items, writer)
 }
 
 /// Does what the values of the command line say.
@@ -250,13 +440,8 @@ fn view<E: Eprint + AllocGlobal, D: Disk, W: Write>(
     if host.disk.kind(asked.file) == Kind::Folder {
         return show_folder(host, program, asked, reading, writer);
     }
-    let items = [item_of(asked.file, asked.script)];
-    let job = Job {
-        given: asked.file,
-        reading,
-        items: items.as_slice(),
-    };
-    show(host, program, asked, &job, writer)
+    let (folder, items) = (parted(asked.file).0, [item_of(asked.file, asked.script)]);
+    compare(host, program, asked, reading, folder, &items, writer)
 }
 
 /// What the words ask for.

@@ -1,85 +1,89 @@
-//! The sizes of sources, as they are written for people and for programs.
+//! The sizes of sources and folders, as they are written for people and for programs.
 use crate::loading::{Content, Loaded};
+use crate::parts::{Measures, Part, at, bytes_of, push_parts, rows_of};
 use serde_json::{Value, json};
 use smap_command_line::view::SizesForm;
 use smap_record::SourceMap;
 use smap_system::printable;
-use smap_view_page::Sizes;
+use smap_view_page::{Row, Sizes, by_growth, folders, share, summed};
 use std::alloc::{AllocError, Global};
+use std::cmp::Ordering;
 
-/// One line of a list of sizes.
-#[derive(Drop)]
-struct Row {
-    name: String,
-    bytes: u64,
-    mappings: u64,
+/// A name as a person sees it.
+pub(crate) fn shown(alloc: Global, name: &str) -> Result<String, AllocError> {
+    printable(alloc, name.as_bytes())
 }
 
-fn at(numbers: &[u64], i: usize) -> u64 {
-    match numbers.get(i) {
-        Some(number) => *number,
-        None => 0,
+/// The beginning of a line of a table.
+fn front(alloc: Global, row: &Row<'_>, all: u64) -> Result<String, AllocError> {
+    let (bytes, mappings) = (row.amounts.bytes, row.amounts.mappings);
+    let share = share(bytes, all);
+    let (whole, tenth) = (share / 10, share % 10);
+    let front = format!(in alloc; "{bytes:>10} {whole:>4}.{tenth}%")?;
+    let front = front.as_str();
+    format!(in alloc; "{front} {mappings:>9}  ")
+}
+
+/// Appends a line of a table, with more behind the name.
+fn push_line(
+    alloc: Global,
+    text: &mut String,
+    row: &Row<'_>,
+    more: &str,
+    all: u64,
+) -> Result<(), AllocError> {
+    let front = front(alloc, row, all)?;
+    let name = shown(alloc, row.name)?;
+    text.push_str(front.as_str())?;
+    text.push_str(name.as_str())?;
+    text.push_str(more)?;
+    text.push('\n')
+}
+
+/// Appends what is in folders, if there are some.
+fn push_folders(
+    alloc: Global,
+    text: &mut String,
+    parts: &[Part],
+    all: u64,
+) -> Result<(), AllocError> {
+    let mut rows = folders(alloc, &rows_of(alloc, parts, true)?)?;
+    if rows.is_empty() {
+        return Ok(());
     }
-}
-
-/// The name of a source in a list.
-fn name_of(alloc: Global, map: &SourceMap, i: usize) -> Result<String, AllocError> {
-    if i < map.source_count() {
-        if let Some(url) = map.source(i).url {
-            return printable(alloc, url.as_bytes());
-        }
-        let number = i.saturating_add(1);
-        return format!(in alloc; "source {number}, which has no URL");
+    by_growth(&mut rows)?;
+    text.push_str("     bytes   share  mappings  folder\n")?;
+    for row in &rows {
+        push_line(alloc, text, row, "", all)?;
     }
-    if i == map.source_count() {
-        return String::from_str(alloc, "mappings without a source");
-    }
-    String::from_str(alloc, "no mapping")
+    Ok(())
 }
 
-/// The sources by their bytes, the most first; behind them what has no source, and what has no mapping.
-fn rows(alloc: Global, map: &SourceMap, sizes: &Sizes) -> Result<Vec<Row>, AllocError> {
-    let mut rows = Vec::with_capacity(alloc, sizes.bytes.len())?;
-    for i in 0..sizes.bytes.len() {
-        rows.push(Row {
-            name: name_of(alloc, map, i)?,
-            bytes: at(&sizes.bytes, i),
-            mappings: at(&sizes.mappings, i),
-        })?;
-    }
-    rows.sort_by(|a, b| b.bytes.cmp(&a.bytes))?;
-    Ok(rows)
-}
-
-/// A share of all in tenths of a percent.
-fn share(bytes: u64, all: u64) -> u64 {
-    bytes.saturating_mul(1000).checked_div(all).unwrap_or(0)
-}
-
-fn table(alloc: Global, script: &str, rows: &[Row], all: u64) -> Result<String, AllocError> {
-    let script = printable(alloc, script.as_bytes())?;
-    let script = script.as_str();
-    let mut text = format!(in alloc; "{script}: {all} bytes\n")?;
+fn table(alloc: Global, place: &str, parts: &[Part], all: u64) -> Result<String, AllocError> {
+    let place = shown(alloc, place)?;
+    let place = place.as_str();
+    let mut text = format!(in alloc; "{place}: {all} bytes\n")?;
     text.push_str("     bytes   share  mappings  source\n")?;
-    for row in rows {
-        let (bytes, mappings, name) = (row.bytes, row.mappings, row.name.as_str());
-        let share = share(bytes, all);
-        let (whole, tenth) = (share / 10, share % 10);
-        let front = format!(in alloc; "{bytes:>10} {whole:>4}.{tenth}%")?;
-        let front = front.as_str();
-        let line = format!(in alloc; "{front} {mappings:>9}  {name}\n")?;
-        text.push_str(line.as_str())?;
+    let mut rows = rows_of(alloc, parts, false)?;
+    by_growth(&mut rows)?;
+    for row in &rows {
+        push_line(alloc, &mut text, row, "", all)?;
     }
+    push_folders(alloc, &mut text, parts, all)?;
     Ok(text)
 }
 
-fn tsv(alloc: Global, script: &str, rows: &[Row]) -> Result<String, AllocError> {
-    let script = printable(alloc, script.as_bytes())?;
-    let script = script.as_str();
+fn tsv(alloc: Global, place: &str, parts: &[Part]) -> Result<String, AllocError> {
+    let place = shown(alloc, place)?;
+    let place = place.as_str();
+    let mut rows = rows_of(alloc, parts, false)?;
+    by_growth(&mut rows)?;
     let mut text = String::new(alloc);
-    for row in rows {
-        let (bytes, mappings, name) = (row.bytes, row.mappings, row.name.as_str());
-        let front = format!(in alloc; "{script}\t{bytes}\t{mappings}")?;
+    for row in &rows {
+        let (bytes, mappings) = (row.amounts.bytes, row.amounts.mappings);
+        let name = shown(alloc, row.name)?;
+        let name = name.as_str();
+        let front = format!(in alloc; "{place}\t{bytes}\t{mappings}")?;
         let front = front.as_str();
         let line = format!(in alloc; "{front}\t{name}\n")?;
         text.push_str(line.as_str())?;
@@ -116,33 +120,52 @@ fn source_values(alloc: Global, map: &SourceMap, sizes: &Sizes) -> Result<Value,
     Ok(Value::Array(values))
 }
 
-/// The sizes of a script as JSON, in one line. Names come from strangers: a character that a terminal may
-/// take for something else than what it shows stands in a string, where `printable` escapes it as JSON does.
+fn folder_values(alloc: Global, parts: &[Part]) -> Result<Value, AllocError> {
+    let mut rows = folders(alloc, &rows_of(alloc, parts, true)?)?;
+    by_growth(&mut rows)?;
+    let mut values = Vec::with_capacity(alloc, rows.len())?;
+    for row in &rows {
+        let (bytes, mappings) = (row.amounts.bytes, row.amounts.mappings);
+        values.push(json!(in alloc; {"bytes": bytes, "folder": row.name, "mappings": mappings})?)?;
+    }
+    Ok(Value::Array(values))
+}
+
+/// A value in one line. Names come from strangers: a character that a terminal may take for something else
+/// than what it shows stands in a string, where `printable` escapes it as JSON does.
+pub(crate) fn json_line(alloc: Global, value: &Value) -> Result<String, AllocError> {
+    let text = value.to_string(alloc)?;
+    let mut text = printable(alloc, text.as_bytes())?;
+    text.push('\n')?;
+    Ok(text)
+}
+
+/// The sizes of a script as JSON.
 fn line(
     alloc: Global,
     loaded: &Loaded,
     map: &SourceMap,
-    sizes: &Sizes,
-    all: u64,
+    measures: &Measures,
+    parts: &[Part],
 ) -> Result<String, AllocError> {
-    let count = map.source_count();
+    let (count, sizes) = (map.source_count(), &measures.sizes);
     let sources = source_values(alloc, map, sizes)?;
+    let folders = folder_values(alloc, parts)?;
     let (unsourced, unmapped) = (
         at(&sizes.bytes, count),
         at(&sizes.bytes, count.saturating_add(1)),
     );
     let value = json!(in alloc; {
-        "bytes": all,
+        "bytes": measures.all,
+        "comment": measures.comment,
+        "folders": folders,
         "map": &loaded.url,
-        "script": &loaded.script,
+        "script": &loaded.place,
         "sources": sources,
         "unmapped": unmapped,
         "unsourced": unsourced
     })?;
-    let text = value.to_string(alloc)?;
-    let mut text = printable(alloc, text.as_bytes())?;
-    text.push('\n')?;
-    Ok(text)
+    json_line(alloc, &value)
 }
 
 /// The sizes of a script in the form that is asked for; nothing where its map is refused.
@@ -150,19 +173,63 @@ pub(crate) fn sizes_text(
     alloc: Global,
     form: SizesForm,
     loaded: &Loaded,
-    sizes: &Sizes,
+    measures: &Measures,
 ) -> Result<String, AllocError> {
-    let Content::Map(map, text) = &loaded.content else {
+    let Content::Map(map, _) = &loaded.content else {
         return Ok(String::new(alloc));
     };
-    let all = text.len() as u64;
-    let script = loaded.script.as_str();
-    if form == SizesForm::Json {
-        return line(alloc, loaded, map, sizes, all);
+    let mut parts = Vec::new(alloc);
+    push_parts(alloc, &mut parts, map, measures, 0)?;
+    let place = loaded.place.as_str();
+    match form {
+        SizesForm::Json => line(alloc, loaded, map, measures, &parts),
+        SizesForm::Tsv => tsv(alloc, place, &parts),
+        SizesForm::Table => table(alloc, place, &parts, measures.all),
     }
-    let rows = rows(alloc, map, sizes)?;
-    if form == SizesForm::Tsv {
-        return tsv(alloc, script, &rows);
+}
+
+/// What each script has of a source, whose parts are these.
+fn within(alloc: Global, parts: &[Part], places: &[String]) -> Result<String, AllocError> {
+    let mut text = String::new(alloc);
+    for part in parts {
+        let (bytes, mark) = (part.amounts.bytes, if text.is_empty() { ":" } else { "," });
+        let Some(place) = places.get(part.script) else {
+            continue;
+        };
+        let place = shown(alloc, place.as_str())?;
+        let place = place.as_str();
+        let one = format!(in alloc; "{mark} {bytes} in {place}")?;
+        text.push_str(one.as_str())?;
     }
-    table(alloc, script, &rows, all)
+    Ok(text)
+}
+
+/// The parts with this name, of parts in the order of their names.
+fn named<'a>(parts: &'a [Part], name: &str) -> &'a [Part] {
+    let from = parts.partition_point(|part| part.name.as_str() < name);
+    let behind = parts.partition_point(|part| part.name.as_str() <= name);
+    parts.get(from..behind).unwrap_or(&[])
+}
+
+/// The sizes of all scripts together, as a table: what each source has, and what each script has of it.
+pub(crate) fn all_text(
+    alloc: Global,
+    parts: &mut Vec<Part>,
+    places: &[String],
+) -> Result<String, AllocError> {
+    let all = bytes_of(parts);
+    let mut text = format!(in alloc; "all scripts: {all} bytes\n")?;
+    text.push_str("     bytes   share  mappings  source\n")?;
+    parts.sort_by(|a, b| match a.name.as_str().cmp(b.name.as_str()) {
+        Ordering::Equal => b.amounts.bytes.cmp(&a.amounts.bytes),
+        order => order,
+    })?;
+    let mut rows = summed(alloc, &rows_of(alloc, parts, false)?)?;
+    by_growth(&mut rows)?;
+    for row in &rows {
+        let more = within(alloc, named(parts, row.name), places)?;
+        push_line(alloc, &mut text, row, more.as_str(), all)?;
+    }
+    push_folders(alloc, &mut text, parts, all)?;
+    Ok(text)
 }
