@@ -224,6 +224,23 @@ fn measure<E: Eprint + AllocGlobal, D: Disk, W: Write>(
     }
 }
 
+/// Writes the sizes of what has grown, if there are two builds.
+fn write_compared<E: Eprint + AllocGlobal, D: Disk, W: Write>(
+    host: &Host<'_, E, D>,
+    form: SizesForm,
+    job: &Job<'_>,
+    noted: &[Part],
+    writer: &mut Watched<W>,
+) -> Result<(), Stop> {
+    match builds_of(job, noted) {
+        Some(builds) => {
+            let text = growth_sizes(host.alloc(), form, job.given, builds)?;
+            host.write(text.as_bytes(), writer)
+        }
+        None => Ok(()),
+    }
+}
+
 /// Writes what several scripts or two builds have together.
 fn write_together<E: Eprint + AllocGlobal, D: Disk, W: Write>(
     host: &Host<'_, E, D>,
@@ -233,9 +250,8 @@ fn write_together<E: Eprint + AllocGlobal, D: Disk, W: Write>(
     writer: &mut Watched<W>,
 ) -> Result<(), Stop> {
     let alloc = host.alloc();
-    if let Some(builds) = builds_of(job, &noted.parts) {
-        let text = growth_sizes(alloc, form, job.given, builds)?;
-        return host.write(text.as_bytes(), writer);
+    if job.other.is_some() {
+        return write_compared(host, form, job, &noted.parts, writer);
     }
     if form == SizesForm::Table && noted.places.len() > 1 {
         let text = all_text(alloc, &mut noted.parts, &noted.places)?;
