@@ -1,7 +1,7 @@
 //! A run of `smap-view`.
 use crate::budget::Budget;
 use crate::comparing::{Builds, growth_sizes, growth_value};
-use crate::folders::{scripts_in, with_slash};
+use crate::folders::{items_in, scripts_in, with_slash};
 use crate::loading::{Content, Item, Loaded, Reading, item_of, load};
 use crate::page::{data_of, write_data, write_growth};
 use crate::parts::{Measures, Part, as_old, measures_of, push_parts};
@@ -316,23 +316,6 @@ fn show<E: Eprint + AllocGlobal, D: Disk, W: Write>(
         Some(file) => write_file(host, job, template.as_str(), file),
         None => write_page(host, job, template.as_str(), writer),
     }
-}
-
-/// The scripts of a folder as items. `folder` ends in a slash.
-fn items_in<'a>(
-    alloc: Global,
-    folder: &'a str,
-    names: &'a [String],
-) -> Result<Vec<Item<'a>>, AllocError> {
-    let mut items = Vec::with_capacity(alloc, names.len())?;
-    for name in names {
-        items.push(Item::Script {
-            folder,
-            name: name.as_str(),
-            found: true,
-        })?;
-    }
-    Ok(items)
 }
 
 /// Reads the build that this one is compared with.
