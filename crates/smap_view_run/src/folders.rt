@@ -1,4 +1,5 @@
 //! The scripts of a folder.
+use crate::loading::Item;
 use smap_system::{Disk, Host, Stop, walk};
 use std::alloc::{AllocError, Global};
 
@@ -23,4 +24,21 @@ pub(crate) fn scripts_in<E: Eprint + AllocGlobal, D: Disk>(
         }
         Err(fault) => Err(host.fail_walking(given, fault)),
     }
+}
+
+/// The scripts of a folder as items. `folder` ends in a slash.
+pub(crate) fn items_in<'a>(
+    alloc: Global,
+    folder: &'a str,
+    names: &'a [String],
+) -> Result<Vec<Item<'a>>, AllocError> {
+    let mut items = Vec::with_capacity(alloc, names.len())?;
+    for name in names {
+        items.push(Item::Script {
+            folder,
+            name: name.as_str(),
+            found: true,
+        })?;
+    }
+    Ok(items)
 }

@@ -80,12 +80,20 @@ pub(crate) fn data_of(
     loaded: Loaded,
     measures: &Measures,
 ) -> Result<Data, AllocError> {
+    let Loaded {
+        map,
+        url,
+        script,
+        place: _,
+        code: _,
+        content,
+    } = loaded;
     let names = Names {
-        map: &loaded.map,
-        url: &loaded.url,
-        script: &loaded.script,
+        map: &map,
+        url: &url,
+        script: &script,
     };
-    match loaded.content {
+    match content {
         Content::Map(map, text) => map_data(alloc, names, &map, &text, measures),
         Content::Refused(error, place) => refused_data(alloc, names, &error, place),
     }

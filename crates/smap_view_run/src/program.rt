@@ -1,7 +1,7 @@
 //! A run of `smap-view`.
 use crate::budget::Budget;
 use crate::comparing::{Builds, growth_sizes, growth_value};
-use crate::folders::{scripts_in, with_slash};
+use crate::folders::{items_in, scripts_in, with_slash};
 use crate::loading::{Content, Item, Loaded, Reading, item_of, load};
 use crate::page::{data_of, write_data, write_growth};
 use crate::parts::{Measures, Part, as_old, measures_of, push_parts};
@@ -224,6 +224,23 @@ fn measure<E: Eprint + AllocGlobal, D: Disk, W: Write>(
     }
 }
 
+/// Writes the sizes of what has grown, if there are two builds.
+fn write_compared<E: Eprint + AllocGlobal, D: Disk, W: Write>(
+    host: &Host<'_, E, D>,
+    form: SizesForm,
+    job: &Job<'_>,
+    noted: &[Part],
+    writer: &mut Watched<W>,
+) -> Result<(), Stop> {
+    match builds_of(job, noted) {
+        Some(builds) => {
+            let text = growth_sizes(host.alloc(), form, job.given, builds)?;
+            host.write(text.as_bytes(), writer)
+        }
+        None => Ok(()),
+    }
+}
+
 /// Writes what several scripts or two builds have together.
 fn write_together<E: Eprint + AllocGlobal, D: Disk, W: Write>(
     host: &Host<'_, E, D>,
@@ -233,9 +250,8 @@ fn write_together<E: Eprint + AllocGlobal, D: Disk, W: Write>(
     writer: &mut Watched<W>,
 ) -> Result<(), Stop> {
     let alloc = host.alloc();
-    if let Some(builds) = builds_of(job, &noted.parts) {
-        let text = growth_sizes(alloc, form, job.given, builds)?;
-        return host.write(text.as_bytes(), writer);
+    if job.other.is_some() {
+        return write_compared(host, form, job, &noted.parts, writer);
     }
     if form == SizesForm::Table && noted.places.len() > 1 {
         let text = all_text(alloc, &mut noted.parts, &noted.places)?;
@@ -300,23 +316,6 @@ fn show<E: Eprint + AllocGlobal, D: Disk, W: Write>(
         Some(file) => write_file(host, job, template.as_str(), file),
         None => write_page(host, job, template.as_str(), writer),
     }
-}
-
-/// The scripts of a folder as items. `folder` ends in a slash.
-fn items_in<'a>(
-    alloc: Global,
-    folder: &'a str,
-    names: &'a [String],
-) -> Result<Vec<Item<'a>>, AllocError> {
-    let mut items = Vec::with_capacity(alloc, names.len())?;
-    for name in names {
-        items.push(Item::Script {
-            folder,
-            name: name.as_str(),
-            found: true,
-        })?;
-    }
-    Ok(items)
 }
 
 /// Reads the build that this one is compared with.
