@@ -8,10 +8,10 @@ use Rattle.std.specs.List.{All, list_any, prefix_len, slice_get, starts_with}
 use Rattle.smap_system.specs.Held.{Held}
 use Rattle.smap_link.specs.Ends.{script_path, stem}
 use Rattle.smap_link.specs.Inline.{is_data}
-use Rattle.smap_link.specs.Kinds.{link_in}
+use Rattle.smap_link.specs.Kinds.{is_script, link_in}
 use Rattle.smap_link.specs.Paths.{bare}
 use Rattle.smap_link.specs.Tails.{AgreeEqually}
-use Rattle.smap_link.specs.Urls.{is_path}
+use Rattle.smap_link.specs.Urls.{is_path, is_slash}
 use Rattle.smap_map_choice.specs.Picks.{ArePicks, IsFound}
 use Rattle.smap_map_choice.specs.Opening.{found_place}
 use Rattle.smap_map_choice.specs.PlaceView.{places_in}
@@ -364,10 +364,19 @@ AreChoices held w names picks = ArePicksOf (IsChoiceOf held w) names picks
 
 -- ---- the map of what a name has
 
--- A name may belong to a file by its end: a URL that names a place, a path; of a frame also a name without a
--- colon, since `node:internal/x.js` names none.
+-- the file name of a script, with nothing before it
+abbrev pub is_bare_script : List ℕ → Bool
+is_bare_script name = is_script (bare name) && not (list_any is_slash (bare name))
+
+-- a name without a colon: `node:internal/x.js` names no file
+abbrev pub has_no_colon : List ℕ → Bool
+has_no_colon name = not (list_any (λ b. nat_eq b 58) name)
+
+-- A name may belong to a file by its end: a URL that names a place, a path, the bare name of a script; and of
+-- a frame any other name.
 abbrev pub may_end_alike : List ℕ → Bool → Bool
-may_end_alike name in_frames = is_absolute name || (in_frames && not (list_any (λ b. nat_eq b 58) name))
+may_end_alike name in_frames =
+    is_absolute name || ((in_frames || is_bare_script name) && has_no_colon name)
 
 -- Found, but not by its end for a name that may not belong to a file by it.
 abbrev pub within_ends : List ℕ → Bool → Found → Found

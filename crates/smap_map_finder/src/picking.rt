@@ -1,6 +1,7 @@
 //! Which file each name of a log has.
 ghost use Rattle.std.specs.Prelude.{◌≡◌, ◌↔◌, IfOk, IsTrue, List, map, option_map, true, ℕ};
 ghost use Rattle.std.specs.List.{All};
+ghost use Rattle.smap_link.specs.Kinds.{is_script as is_script_name};
 ghost use Rattle.smap_map_finder.specs.Choice as spec;
 ghost use Rattle.smap_map_finder.specs.Choice.{AreBest, AreLinks, ArePicked, ArePicksIn, IsBest};
 ghost use Rattle.smap_map_finder.specs.Choice.{IsChoiceOf};
@@ -87,12 +88,27 @@ fn own_name(alloc: Global, name: &[u8], file: Option<&Vec<u8>>) -> Result<Vec<u8
     }
 }
 
+/// Whether a name ends as those of scripts do.
+fn is_script(name: &[u8]) -> bool
+    ensures { result ≡ is_script_name name.now }
+{
+    name.ends_with(b".js") || name.ends_with(b".mjs") || name.ends_with(b".cjs")
+}
+
+/// Whether a name is the file name of a script, with nothing before it.
+fn is_bare_script(name: &[u8]) -> bool
+    ensures { result ≡ spec.is_bare_script name.now }
+{
+    let file = bare(name);
+    is_script(file) && !file.iter().any(|b| *b == b'/' || *b == b'\\')
+}
+
 /// Whether a name may belong to a file by its end. `node:internal/x.js` names none. Of a name that is neither
-/// a URL nor a path only a frame shows where it begins.
+/// a URL nor a path only a frame shows where it begins, unless it is the bare name of a script.
 fn may_end_alike(name: &[u8], in_frames: bool) -> bool
     ensures { result ≡ spec.may_end_alike name.now in_frames }
 {
-    is_absolute(name) || in_frames && !name.contains(&b':')
+    is_absolute(name) || (in_frames || is_bare_script(name)) && !name.contains(&b':')
 }
 
 /// What was found for a name, but none by its end for a name that may not belong to a file by it.
