@@ -18,14 +18,12 @@ abbrev pub origin_in : Record → ℕ → ℕ → Option Origin
 origin_in r line column = option_and_then (λ m. m.origin) (mapping_at r.mappings line column)
 
 -- The second original in place of the first, whose text it is looked up in: the name of the first stays
--- where
--- the second has none, and what was ignored stays ignored.
+-- where the second has none, and what was ignored stays ignored.
 abbrev pub led_on : Origin → Origin → Origin
 led_on o p = record p { source = under o.source.ignored p.source; name = option_or p.name o.name }
 
 -- Where an original leads by the map of its source: nowhere, if that map has no original there; and to
--- itself
--- if its source has no map.
+-- itself if its source has no map.
 abbrev pub followed : Maps → Origin → Option Origin
 followed maps o = option_map_or (λ r. option_map (led_on o) (origin_in r o.line o.column))
     (maps o.source) (Some o)
@@ -39,8 +37,7 @@ abbrev pub sources_through : Maps → Entry → List Entry
 sources_through maps e = option_map_or (λ r. map (under e.ignored) r.sources) (maps e) (e ∷ [])
 
 -- The composition: as many mappings as the map has, at the same positions, each followed; and for each
--- source
--- those that stand for it.
+-- source those that stand for it.
 abbrev pub composition : Record → Maps → Record
 composition r maps = record {
   labels = r.labels;
