@@ -33,7 +33,8 @@ pub(crate) struct Opener<'a, D> {
     pub(crate) table: ScriptTable,
     pub(crate) links: Links,
     pub(crate) compared: Vec<Compared>,
-    /// How often two files were found to be alike, or as often as that is tried at most, if they once weren't.
+    /// How often two files were found to be alike, or as often as that is tried at most, if they once
+    /// weren't.
     pub(crate) tried: IndexMap<Pair, usize>,
     pub(crate) store: FileStore<'a, D>,
 }

@@ -133,7 +133,8 @@ listed_within xs ns i n below e all = all_at (λ k. k < length xs) ns i n all.wi
 pub numbered_again : (xs : List SourceEntry) (ns : List ℕ) (i n : ℕ) → i < length (map (entry_at xs) ns)
     → n ≡ get_or ns i n → IsNumbered xs ns → IsNumbered xs (ns ++ n ∷ [])
 numbered_again xs ns i n below e all = numbered-push xs xs (entry_at xs n) n ns
-    (numbers_again xs n (listed_within xs ns i n (omega (arith, below, length-map ns (entry_at xs))) e all)) all
+    (numbers_again xs n
+    (listed_within xs ns i n (omega (arith, below, length-map ns (entry_at xs))) e all)) all
 
 pub listed_again : (xs : List SourceEntry) (ns : List ℕ) (i n : ℕ) → i < length (map (entry_at xs) ns)
     → n ≡ get_or ns i n → map (entry_at xs) (ns ++ n ∷ [])
