@@ -15,8 +15,9 @@ smap lookup: --help
 smap respell: --help
 smap scripts: --help
 smap translate: --hide-ignored --anywhere --ignore-query --help
+smap compose: --relative --thin --used --help
 smap-events: --no-raw --context --version --help
-smap-trace: --frames-only --anywhere --hide-ignored --skip-broken --strict --check-all --list --context --url-bytes --source-prefix --quiet --verbose --version --help
+smap-trace: --frames-only --anywhere --hide-ignored --skip-broken --strict --check-all --list --names --context --url-bytes --source-prefix --quiet --verbose --version --help
 smap-maps: --version --help
 smap-maps check: --base --json --url-bytes --version --help
 smap-maps tidy: --base --absolute --relative --write --drop --diff --json --url-bytes --version --help

@@ -11,6 +11,7 @@ complete -c smap -n __fish_use_subcommand -a lookup -d 'Find the original positi
 complete -c smap -n __fish_use_subcommand -a respell -d 'Re-encode a bare mappings string'
 complete -c smap -n __fish_use_subcommand -a translate -d 'Translate a stack trace'
 complete -c smap -n __fish_use_subcommand -a scripts -d 'Count the scripts that a stack trace names'
+complete -c smap -n __fish_use_subcommand -a compose -d 'Write one map for a chain of maps'
 
 complete -c smap -n __fish_use_subcommand -a trace -d 'Translate the stack traces of a log'
 complete -c smap -n __fish_use_subcommand -a maps -d 'Check, tidy, flatten, lint or repair maps'
@@ -33,3 +34,6 @@ complete -c smap -n '__fish_seen_subcommand_from tidy' -l relative -d 'Write sou
 complete -c smap -n '__fish_seen_subcommand_from translate' -l hide-ignored -d 'Leave out frames in ignored sources'
 complete -c smap -n '__fish_seen_subcommand_from translate' -l anywhere -d 'Find positions anywhere in a line'
 complete -c smap -n '__fish_seen_subcommand_from translate' -l ignore-query -d 'Ignore a query behind the URL of a script'
+complete -c smap -n '__fish_seen_subcommand_from compose' -l relative -d 'Write source URLs relative to BASE'
+complete -c smap -n '__fish_seen_subcommand_from compose' -l thin -d 'Leave out mappings that change no original'
+complete -c smap -n '__fish_seen_subcommand_from compose' -l used -d 'Leave out sources that no mapping has'

@@ -2,9 +2,10 @@
 use Rattle.std.proofs.Common.{◌≡◌, ℕ, List, [], ◌∷◌, Option, Some, None, Bool, true, false, refl}
 use Rattle.std.specs.Prelude.{codes}
 use Rattle.smap_record.specs.Record.{Entry, Origin, Mapping, Record, no_labels, distinct}
-use Rattle.smap_compose.specs.Chain.{chained, led_to}
+use Rattle.smap_compose.specs.Chain.{chained, led_to, unled}
 use Rattle.smap_compose.specs.Composing.{composition}
 use Rattle.smap_compose.specs.Thinning.{thinned}
+use Rattle.smap_compose.specs.Using.{used}
 
 abbrev source : List ℕ → Entry
 source url = record { url = Some url; content = None; ignored = false }
@@ -131,3 +132,23 @@ in_order : many ≡ says (a_ts ∷ b_ts ∷ c_ts ∷ null ∷ [])
     (mapped 0 0 (at b_ts 0 0) ∷ mapped 0 2 (at null 1 1) ∷ [])
 unfolding distinct
 in_order = refl
+
+-- only those that a mapping has
+of_mappings : used many ≡ says (b_ts ∷ null ∷ [])
+    (mapped 0 0 (at b_ts 0 0) ∷ mapped 0 2 (at null 1 1) ∷ [])
+unfolding distinct
+of_mappings = refl
+
+-- ---- links that no source leads to
+
+abbrev link : List ℕ → Entry → List ℕ × Record
+link script source = (script, says (source ∷ []) [])
+
+-- A script of one name leads to a later one, and one that is named otherwise is led to by none.
+led_to_each : unled (says (a_js ∷ []) []) (link (codes "a.js") a_js ∷ link (codes "a.js") m_js
+    ∷ link (codes "m.js") a_ts ∷ []) ≡ None
+led_to_each = refl
+
+first_unled : unled (says (a_js ∷ []) []) (link (codes "a.js") m_js ∷ link (codes "a.js") a_ts ∷ [])
+    ≡ Some 1
+first_unled = refl

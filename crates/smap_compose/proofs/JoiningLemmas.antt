@@ -13,7 +13,7 @@ use Rattle.indexmap.specs.IndexSet.{insert_key}
 use denote.Ref.{Bor}
 use Rattle.smap_mappings.specs.declared.token.Token.{Token}
 use Rattle.smap_mappings.specs.declared.token.Original.{Original}
-use Rattle.smap_mappings.specs.Position.{LINES, POSITIONS, position_of}
+use Rattle.smap_mappings.specs.Position.{LINES, NeverFalls, POSITIONS, position_of}
 use Rattle.smap_mappings.specs.Text.{IsOriginal, IsPlaced}
 use Rattle.smap_record.specs.Record.{Entry, Listing, Mapping, distinct, mapping_of}
 use Rattle.smap_record.specs.Record.{origin_of}
@@ -246,19 +246,25 @@ through_positions : (maps : Maps) (ms : List Mapping)
 through_positions maps [] = refl
 through_positions maps (m ∷ ms) = rw (through_positions maps ms) refl
 
--- what is listed with the mappings of a map, followed, is a listing
-pub is_listing : (outer : Listing) (maps : Maps) (sources : List Entry) (names : List (List ℕ))
-    (tokens : List Token) → IsListing outer
-    → AreOf sources (map (through maps) (map (mapping_of outer) outer.tokens)) names tokens
-    → length sources < POSITIONS → length names < POSITIONS
+-- what is listed with these mappings is a listing
+pub is_listing_of : (ms : List Mapping) (sources : List Entry) (names : List (List ℕ)) (tokens : List Token)
+    → NeverFalls (map mapping_position ms) → AreOf sources ms names tokens → length sources < POSITIONS
+    → length names < POSITIONS
     → IsListing (record { sources = sources; names = names; tokens = tokens })
-is_listing outer maps sources names tokens is are few_sources few_names =
-    let positions : map position_of tokens ≡ map position_of outer.tokens =
-    sym (same_positions (naming sources names) tokens) ∙ ap (map mapping_position) are.same
-    ∙ through_positions maps (map (mapping_of outer) outer.tokens) ∙ same_positions outer outer.tokens in
+is_listing_of ms sources names tokens falls are few_sources few_names =
+    let positions : map position_of tokens ≡ map mapping_position ms =
+    sym (same_positions (naming sources names) tokens) ∙ ap (map mapping_position) are.same in
     record {
       sources = few_sources;
       names = few_names;
-      encodable = (rw positions is.encodable.0, are.placed);
+      encodable = (rw positions falls, are.placed);
       listed = listed_all (record { sources = sources; names = names; tokens = tokens }) tokens are.below;
     }
+
+-- the mappings of a map never fall, nor do they if they are followed
+pub falls_in : (l : Listing) → IsListing l → NeverFalls (map mapping_position (map (mapping_of l) l.tokens))
+falls_in l is = rw (same_positions l l.tokens) is.encodable.0
+
+pub falls_through : (l : Listing) (maps : Maps) → IsListing l
+    → NeverFalls (map mapping_position (map (through maps) (map (mapping_of l) l.tokens)))
+falls_through l maps is = rw (through_positions maps (map (mapping_of l) l.tokens)) (falls_in l is)

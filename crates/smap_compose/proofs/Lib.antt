@@ -1,11 +1,15 @@
 pub mod ChainLemmas
+pub mod ClosingLemmas
 mod Examples
 pub mod FitLemmas
+pub mod LeadingLemmas
 pub mod LookupLemmas
 pub mod MappingLemmas
 pub mod OnceLemmas
 pub mod SourceLemmas
+pub mod SpareLemmas
 pub mod ThinLemmas
 pub mod StandingLemmas
 pub mod FollowingLemmas
 pub mod JoiningLemmas
+pub mod UsingLemmas

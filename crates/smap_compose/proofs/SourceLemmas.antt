@@ -82,7 +82,7 @@ filter-all : {A : Type 0} (same : A → A → Bool) (x : A) (xs : List A)
 filter-all same x [] h = refl
 filter-all same x (y ∷ ys) h = rw (h.0, filter-all same x ys h.1) refl
 
-distinct-once : {A : Type 0} (same : A → A → Bool) (xs : List A)
+pub distinct-once : {A : Type 0} (same : A → A → Bool) (xs : List A)
     → IsDistinct same xs → distinct same xs ≡ xs
 unfolding distinct IsDistinct
 distinct-once same [] h = refl

@@ -25,7 +25,7 @@ use Rattle.smap_compose.specs.Standing.{standing_up_to, start_of}
 
 -- ---- the place of a source
 
-turned : (x y : Entry) → same_entry x y ≡ false → same_entry y x ≡ false
+pub turned : (x y : Entry) → same_entry x y ≡ false → same_entry y x ≡ false
 turned x y e = grind (arith, same_entries y x, own_entry x)
 
 -- a source stands once among distinct ones

@@ -1,7 +1,10 @@
 pub mod Chain
+pub mod Closed
 pub mod Composing
 pub mod Following
+pub mod Kept
 pub mod Laws
 pub mod Numbered
 pub mod Standing
 pub mod Thinning
+pub mod Using

@@ -10,12 +10,15 @@ ghost use Rattle.smap_compose.specs.Composing.{composition};
 ghost use Rattle.smap_compose.specs.Following.{texts_of};
 ghost use Rattle.smap_compose.specs.Numbered.{is_too_many, maps_of};
 ghost use Rattle.smap_compose.specs.Standing.{all_standing};
+ghost use Rattle.smap_trace.specs.LineStarts.{line_starts};
 
 use crate::error::ComposeError;
-use crate::joining::{Joined, join};
+use crate::following::tables;
+use crate::joining::{Joined, join_by};
 use crate::standing::{is_within, standing_sources};
 use indexmap::IndexSet;
 use smap_record::{Limits, SourceMap, Sources};
+use smap_trace::LineStarts;
 use std::alloc::{AllocError, Global};
 
 /// Copies of the names.
@@ -30,7 +33,7 @@ fn copies(alloc: Global, names: &IndexSet<&str>) -> Result<Vec<String>, AllocErr
 }
 
 /// The map of these parts, with the labels of the outer one.
-fn map_of(
+pub(crate) fn map_of(
     alloc: Global,
     outer: &SourceMap,
     sources: Sources,
@@ -59,9 +62,11 @@ fn composed(
     alloc: Global,
     outer: &SourceMap,
     inner: &[SourceMap],
+    tables: &[LineStarts],
     leads: &[Option<usize>],
     items: u32,
 ) -> Result<SourceMap, ComposeError>
+    requires tables { tables.now ≡ mapped (λ m. line_starts (record_of m).mappings) inner.now }
     requires few { length (all_standing outer.now inner.now leads.now) ≤ items }
     requires items { items < POSITIONS }
     ensures record { IfOk result (λ m.
@@ -74,8 +79,32 @@ fn composed(
     // What this call promises besides the count: the positions of a map's mappings never fall.
     let _ = outer.token_count();
     let standing = standing_sources(alloc, outer, inner, leads)?;
-    let joined = join(alloc, outer, inner, leads, &standing, items)?;
+    let joined = join_by(alloc, outer, inner, tables, leads, &standing, items)?;
     Ok(map_of(alloc, outer, standing.sources, joined)?)
+}
+
+/// The composition, by the tables of the inner maps.
+pub(crate) fn compose_by(
+    alloc: Global,
+    outer: &SourceMap,
+    inner: &[SourceMap],
+    tables: &[LineStarts],
+    leads: &[Option<usize>],
+    limits: Limits,
+) -> Result<SourceMap, ComposeError>
+    requires { tables.now ≡ mapped (λ m. line_starts (record_of m).mappings) inner.now }
+    ensures record { IfOk result (λ m.
+        record_of m ≡ composition (record_of outer.now) (maps_of outer.now inner.now leads.now)) }
+    ensures few { IfOk result (λ m.
+        is_too_many limits (record_of outer.now) (maps_of outer.now inner.now leads.now) ≡ false) }
+    ensures refused { IfErr result (λ e. e ≡ errors.TooMany →
+        is_too_many limits (record_of outer.now) (maps_of outer.now inner.now leads.now) ≡ true) }
+{
+    let items = limits.items();
+    if !is_within(outer, inner, leads, items as usize) {
+        return Err(ComposeError::TooMany);
+    }
+    composed(alloc, outer, inner, tables, leads, items)
 }
 
 /// The composition of a map with maps of its sources: each mapping stays at its position, and where its
@@ -104,9 +133,6 @@ pub fn compose(
     ensures refused { IfErr result (λ e. e ≡ errors.TooMany →
         is_too_many limits (record_of outer.now) (maps_of outer.now inner.now leads.now) ≡ true) }
 {
-    let items = limits.items();
-    if !is_within(outer, inner, leads, items as usize) {
-        return Err(ComposeError::TooMany);
-    }
-    composed(alloc, outer, inner, leads, items)
+    let tables = tables(alloc, inner)?;
+    compose_by(alloc, outer, inner, &tables, leads, limits)
 }

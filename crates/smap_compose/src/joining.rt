@@ -13,7 +13,7 @@ ghost use Rattle.smap_compose.specs.Numbered.{maps_of};
 ghost use Rattle.smap_compose.specs.Standing.{AreStanding};
 
 use crate::error::ComposeError;
-use crate::following::{Listed, followed, tables};
+use crate::following::{Listed, followed};
 use crate::standing::Standing;
 use indexmap::IndexSet;
 use smap_mappings::{Original, Token};
@@ -84,7 +84,7 @@ fn token_of(line: u32, column: u32, original: Option<Listed<'_>>, number: Option
 
 impl<'a> Joined<'a> {
     /// One mapping more.
-    fn with(
+    pub(crate) fn with(
         self,
         line: u32,
         column: u32,
@@ -112,7 +112,7 @@ impl<'a> Joined<'a> {
 }
 
 /// No mapping yet, and room for so many.
-fn none_joined<'a>(alloc: Global, room: usize) -> Result<Joined<'a>, AllocError>
+pub(crate) fn none_joined<'a>(alloc: Global, room: usize) -> Result<Joined<'a>, AllocError>
     ensures { IfOk result (λ j. (texts_of j.names.keys ≡ []) × (j.tokens.items ≡ [])) }
 {
     Ok(Joined {
@@ -145,8 +145,8 @@ fn original_of<'a>(
     followed(original, inner, tables, leads, &standing.starts)
 }
 
-/// All mappings, by the tables of the inner maps.
-fn join_by<'a>(
+/// The mappings of the composition, and the names that they use, by the tables of the inner maps.
+pub(crate) fn join_by<'a>(
     alloc: Global,
     outer: &'a SourceMap,
     inner: &'a [SourceMap],
@@ -177,27 +177,4 @@ fn join_by<'a>(
         }
     }
     Ok(joined)
-}
-
-/// The mappings of the composition, and the names that they use.
-pub(crate) fn join<'a>(
-    alloc: Global,
-    outer: &'a SourceMap,
-    inner: &'a [SourceMap],
-    leads: &[Option<usize>],
-    standing: &Standing,
-    items: u32,
-) -> Result<Joined<'a>, ComposeError>
-    requires standing { AreStanding outer.now inner.now leads.now standing.now }
-    requires few { length standing.now.sources < POSITIONS }
-    requires items { items < POSITIONS }
-    ensures joins { IfOk result (λ j. AreOf standing.now.sources
-        (composition (record_of outer.now) (maps_of outer.now inner.now leads.now)).mappings
-        (texts_of j.names.keys) j.tokens.items) }
-    ensures few { IfOk result (λ j. length (texts_of j.names.keys) ≤ items) }
-    ensures refused { IfErr result (λ e. e ≡ errors.TooMany → items < length (names_used
-        (composition (record_of outer.now) (maps_of outer.now inner.now leads.now)).mappings)) }
-{
-    let tables = tables(alloc, inner)?;
-    join_by(alloc, outer, inner, &tables, leads, standing, items)
 }

@@ -5,12 +5,20 @@
 //! positions, and a lookup in it is one lookup after the other, at every line and column.
 #![tactic(auto)]
 
+mod chain;
 mod composing;
 mod error;
 mod following;
 mod joining;
 pub mod laws;
+mod leading;
 mod standing;
+mod thinning;
+mod using;
 
+pub use chain::compose_chain;
 pub use composing::compose;
 pub use error::ComposeError;
+pub use leading::first_unled;
+pub use thinning::thin;
+pub use using::only_used;

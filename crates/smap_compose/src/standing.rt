@@ -53,7 +53,7 @@ fn under(ignored: bool, source: SourceView<'_>) -> SourceView<'_>
 }
 
 /// The sources listed before, followed by those of a map.
-fn with_all(
+pub(crate) fn with_all(
     alloc: Global,
     before: Sources,
     map: &SourceMap,

@@ -38,7 +38,7 @@ fn is_identifier(text: &[u8]) -> bool
 }
 
 /// Whether a text is an identifier in ASCII, or one behind `#`.
-fn is_word(text: &[u8]) -> bool
+pub(crate) fn is_word(text: &[u8]) -> bool
     ensures { result ≡ spec.is_word text.now }
 {
     match text {

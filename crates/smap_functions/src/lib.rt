@@ -10,12 +10,17 @@ mod elements;
 mod found;
 mod items;
 mod level;
+mod lines;
 mod listing;
+mod renaming;
 mod scan;
-#[cfg(test)]
-mod tests;
+mod segments;
+mod source;
 mod tokens;
 mod words;
 
 pub use found::{Function, Span};
+pub use lines::{SourceLine, line_at};
 pub use listing::{Language, functions, innermost};
+pub use renaming::{Name, closing, logged_name, renamed_before, says};
+pub use source::{SourceFunctions, language_of};

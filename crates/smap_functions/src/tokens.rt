@@ -84,6 +84,18 @@ fn line_end_size(text: &[u8]) -> usize
     }
 }
 
+/// Whether three bytes are white space of one line in UTF-8.
+fn is_long_space(first: u8, second: u8, third: u8) -> bool {
+    match first {
+        0xe1 => second == 0x9a && third == 0x80,
+        0xe2 if second == 0x80 => (0x80 <= third && third <= 0x8a) || third == 0xaf,
+        0xe2 => second == 0x81 && third == 0x9f,
+        0xe3 => second == 0x80 && third == 0x80,
+        0xef => second == 0xbb && third == 0xbf,
+        _ => false,
+    }
+}
+
 /// The bytes of the white space that a text begins with, or 0.
 fn space_size(text: &[u8]) -> usize
     ensures { result ≤ length text.now }
@@ -91,9 +103,13 @@ fn space_size(text: &[u8]) -> usize
     match text {
         [b' ' | b'\t' | 0x0b | 0x0c, ..] => 1,
         [0xc2, 0xa0, ..] => 2,
-        [0xe2, 0x80, 0x80..=0x8a | 0xaf, ..] => 3,
-        [0xe1, 0x9a, 0x80, ..] | [0xe2, 0x81, 0x9f, ..] => 3,
-        [0xe3, 0x80, 0x80, ..] | [0xef, 0xbb, 0xbf, ..] => 3,
+        [first, second, third, ..] => {
+            if is_long_space(*first, *second, *third) {
+                3
+            } else {
+                0
+            }
+        }
         _ => 0,
     }
 }
@@ -268,32 +284,63 @@ fn sign_of(byte: u8) -> Kind {
     }
 }
 
-/// The sign that a text begins with, and its bytes. The bytes of `>>` are signs of their own, since they may
-/// close lists of types.
+/// The sign that three bytes are, if they are one.
+fn sign_of_three(first: u8, second: u8, third: u8) -> Option<Sign> {
+    match third {
+        b'=' => match first {
+            b'&' | b'|' | b'?' if second == first => Some(Sign::Assign),
+            b'*' | b'<' if second == first => Some(Sign::Other),
+            b'=' | b'!' if second == b'=' => Some(Sign::Other),
+            _ => None,
+        },
+        b'.' if first == b'.' && second == b'.' => Some(Sign::Other),
+        _ => None,
+    }
+}
+
+fn may_precede_equals(byte: u8) -> bool {
+    match byte {
+        b'=' | b'!' | b'<' | b'>' | b'+' | b'-' | b'*' | b'/' | b'%' | b'&' | b'|' | b'^' => true,
+        _ => false,
+    }
+}
+
+/// The sign that two bytes are before this third one, if they are one. The bytes of `>>` are signs of their
+/// own, since they may close lists of types.
+fn sign_of_two(first: u8, second: u8, third: u8) -> Option<Sign> {
+    match second {
+        b'>' if first == b'=' => Some(Sign::Arrow),
+        b'.' if first == b'?' && !third.is_ascii_digit() => Some(Sign::OptionalDot),
+        b'+' | b'-' if first == second => Some(Sign::Step),
+        b'&' | b'|' | b'?' | b'*' | b'<' if first == second => Some(Sign::Other),
+        b'=' if may_precede_equals(first) => Some(Sign::Other),
+        _ => None,
+    }
+}
+
+/// The sign that two bytes begin before this third one, and its bytes.
+fn sign_before(first: u8, second: u8, third: u8) -> (Kind, usize)
+    ensures advances { 0 < result.1 }
+    ensures within { result.1 ≤ 2 }
+{
+    match sign_of_two(first, second, third) {
+        Some(sign) => (Kind::Sign(sign), 2),
+        None => (sign_of(first), 1),
+    }
+}
+
+/// The sign that a text begins with, and its bytes.
 fn read_sign(text: &[u8]) -> (Kind, usize)
     requires { 0 < length text.now }
     ensures advances { 0 < result.1 }
     ensures within { result.1 ≤ length text.now }
 {
     match text {
-        [b'&', b'&', b'=', ..] | [b'|', b'|', b'=', ..] | [b'?', b'?', b'=', ..] => {
-            (Kind::Sign(Sign::Assign), 3)
-        }
-        [b'.', b'.', b'.', ..] | [b'=' | b'!', b'=', b'=', ..] | [b'*', b'*', b'=', ..] => {
-            (Kind::Sign(Sign::Other), 3)
-        }
-        [b'<', b'<', b'=', ..] => (Kind::Sign(Sign::Other), 3),
-        [b'=', b'>', ..] => (Kind::Sign(Sign::Arrow), 2),
-        [b'?', b'.', b'0'..=b'9', ..] => (Kind::Sign(Sign::Question), 1),
-        [b'?', b'.', ..] => (Kind::Sign(Sign::OptionalDot), 2),
-        [b'+', b'+', ..] | [b'-', b'-', ..] => (Kind::Sign(Sign::Step), 2),
-        [b'&', b'&', ..] | [b'|', b'|', ..] | [b'?', b'?', ..] => (Kind::Sign(Sign::Other), 2),
-        [b'*', b'*', ..] | [b'<', b'<', ..] => (Kind::Sign(Sign::Other), 2),
-        [
-            b'=' | b'!' | b'<' | b'>' | b'+' | b'-' | b'*' | b'/' | b'%' | b'&' | b'|' | b'^',
-            b'=',
-            ..
-        ] => (Kind::Sign(Sign::Other), 2),
+        [first, second, third, ..] => match sign_of_three(*first, *second, *third) {
+            Some(sign) => (Kind::Sign(sign), 3),
+            None => sign_before(*first, *second, *third),
+        },
+        [first, second] => sign_before(*first, *second, b' '),
         [byte, ..] => (sign_of(*byte), 1),
         [] => (Kind::Sign(Sign::Other), 0),
     }

@@ -54,74 +54,74 @@ pub(crate) enum Word {
     Other,
 }
 
-fn short_word(text: &[u8]) -> Word {
-    match text {
-        b"as" => Word::As,
-        b"do" => Word::Do,
-        b"if" => Word::If,
-        b"in" => Word::In,
-        b"is" => Word::Is,
-        b"of" => Word::Of,
-        b"for" => Word::For,
-        b"get" => Word::Get,
-        b"let" => Word::Let,
-        b"new" => Word::New,
-        b"set" => Word::Set,
-        b"var" => Word::Var,
-        _ => Word::Other,
-    }
-}
+/// A word of the language, by its text.
+type Row = (&'static [u8], Word);
 
-fn word_of_four_or_five(text: &[u8]) -> Word {
-    match text {
-        b"case" => Word::Case,
-        b"else" => Word::Else,
-        b"void" => Word::Void,
-        b"with" => Word::With,
-        b"async" => Word::Async,
-        b"await" => Word::Await,
-        b"catch" => Word::Catch,
-        b"class" => Word::Class,
-        b"const" => Word::Const,
-        b"keyof" => Word::Keyof,
-        b"throw" => Word::Throw,
-        b"while" => Word::While,
-        b"yield" => Word::Yield,
-        _ => Word::Other,
-    }
-}
+const UP_TO_THREE: [Row; 12] = [
+    (b"as", Word::As),
+    (b"do", Word::Do),
+    (b"if", Word::If),
+    (b"in", Word::In),
+    (b"is", Word::Is),
+    (b"of", Word::Of),
+    (b"for", Word::For),
+    (b"get", Word::Get),
+    (b"let", Word::Let),
+    (b"new", Word::New),
+    (b"set", Word::Set),
+    (b"var", Word::Var),
+];
 
-fn word_of_six_or_seven(text: &[u8]) -> Word {
-    match text {
-        b"delete" => Word::Delete,
-        b"export" => Word::Export,
-        b"public" => Word::Public,
-        b"return" => Word::Return,
-        b"static" => Word::Static,
-        b"switch" => Word::Switch,
-        b"typeof" => Word::Typeof,
-        b"declare" => Word::Declare,
-        b"default" => Word::Default,
-        b"extends" => Word::Extends,
-        b"private" => Word::Private,
-        _ => Word::Other,
-    }
-}
+const OF_FOUR_OR_FIVE: [Row; 13] = [
+    (b"case", Word::Case),
+    (b"else", Word::Else),
+    (b"void", Word::Void),
+    (b"with", Word::With),
+    (b"async", Word::Async),
+    (b"await", Word::Await),
+    (b"catch", Word::Catch),
+    (b"class", Word::Class),
+    (b"const", Word::Const),
+    (b"keyof", Word::Keyof),
+    (b"throw", Word::Throw),
+    (b"while", Word::While),
+    (b"yield", Word::Yield),
+];
 
-fn long_word(text: &[u8]) -> Word {
-    match text {
-        b"abstract" => Word::Abstract,
-        b"accessor" => Word::Accessor,
-        b"function" => Word::Function,
-        b"override" => Word::Override,
-        b"readonly" => Word::Readonly,
-        b"protected" => Word::Protected,
-        b"satisfies" => Word::Satisfies,
-        b"implements" => Word::Implements,
-        b"instanceof" => Word::Instanceof,
-        b"constructor" => Word::Constructor,
-        _ => Word::Other,
+const OF_SIX_OR_SEVEN: [Row; 11] = [
+    (b"delete", Word::Delete),
+    (b"export", Word::Export),
+    (b"public", Word::Public),
+    (b"return", Word::Return),
+    (b"static", Word::Static),
+    (b"switch", Word::Switch),
+    (b"typeof", Word::Typeof),
+    (b"declare", Word::Declare),
+    (b"default", Word::Default),
+    (b"extends", Word::Extends),
+    (b"private", Word::Private),
+];
+
+const FROM_EIGHT: [Row; 10] = [
+    (b"abstract", Word::Abstract),
+    (b"accessor", Word::Accessor),
+    (b"function", Word::Function),
+    (b"override", Word::Override),
+    (b"readonly", Word::Readonly),
+    (b"protected", Word::Protected),
+    (b"satisfies", Word::Satisfies),
+    (b"implements", Word::Implements),
+    (b"instanceof", Word::Instanceof),
+    (b"constructor", Word::Constructor),
+];
+
+fn word_in(rows: &[Row], text: &[u8]) -> Word {
+    for (word, of) in rows {
+        if *word == text {
+            return *of;
+        }
     }
+    Word::Other
 }
 
 /// Which word a text is.
@@ -130,10 +130,10 @@ pub(crate) fn word_of(text: &[u8]) -> Word {
         return Word::Decorator;
     }
     match text.len() {
-        2 | 3 => short_word(text),
-        4 | 5 => word_of_four_or_five(text),
-        6 | 7 => word_of_six_or_seven(text),
-        8..=11 => long_word(text),
+        2 | 3 => word_in(&UP_TO_THREE, text),
+        4 | 5 => word_in(&OF_FOUR_OR_FIVE, text),
+        6 | 7 => word_in(&OF_SIX_OR_SEVEN, text),
+        8..=11 => word_in(&FROM_EIGHT, text),
         _ => Word::Other,
     }
 }

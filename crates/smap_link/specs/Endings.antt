@@ -31,9 +31,13 @@ abbrev pub HasEarlier : List (Option ℕ) → List (List ℕ) → ℕ → Type 0
 HasEarlier earlier paths count = (i : ℕ) → i < count
     → IsLatest paths i (last_segment (get_or paths i [])) (get_or earlier i None)
 
+-- Both are of the first `count` paths.
+abbrev pub HasEndings : Endings → List (List ℕ) → ℕ → Type 0
+HasEndings e paths count = HasLatest (rows_of e.latest.entries) paths count
+    × (length e.earlier.items ≡ count) × HasEarlier e.earlier.items paths count
+
 abbrev pub AreEndings : Endings → List (List ℕ) → Type 0
-AreEndings e paths = HasLatest (rows_of e.latest.entries) paths (length paths)
-    × (length e.earlier.items ≡ length paths) × HasEarlier e.earlier.items paths (length paths)
+AreEndings e paths = HasEndings e paths (length paths)
 
 -- ---- the paths that are looked at
 

@@ -60,6 +60,38 @@ fn add_choice(found: &mut Vec<Choice>, i: usize, script: Option<usize>) -> Resul
     Ok(())
 }
 
+/// The scripts that a log means by some names.
+fn choices(
+    alloc: Global,
+    table: &mut ScriptTable,
+    may_be_alike: bool,
+    names: &[&[u8]],
+) -> Result<Vec<Choice>, AllocError>
+    ensures { (scripts : List (List ℕ)) → IsTable table.old scripts
+        → IfOk result (λ found. found.items
+        ≡ spec.choices may_be_alike scripts (map (λ n. n.now) names.now)) }
+{
+    let mut found = Vec::new(alloc);
+    for i in 0..names.len() {
+        let script = meant(alloc, table, may_be_alike, names[i])?;
+        add_choice(&mut found, i, script)?;
+    }
+    Ok(found)
+}
+
+fn chosen(
+    alloc: Global,
+    mut table: ScriptTable,
+    may_be_alike: bool,
+    names: &[&[u8]],
+) -> Result<Vec<Choice>, AllocError>
+    ensures { (scripts : List (List ℕ)) → IsTable table scripts
+        → IfOk result (λ found. found.items
+        ≡ spec.choices may_be_alike scripts (map (λ n. n.now) names.now)) }
+{
+    choices(alloc, &mut table, may_be_alike, names)
+}
+
 /// For each name of a log, in its order, the script that is meant, if one of these is: that of this very
 /// name; or else, if names may be alike, the first that is alike to it and has the same query (`key_of`); or
 /// else the first that is alike to it without its query and its fragment, which a path has too in some logs;
@@ -81,11 +113,6 @@ pub fn choose(
     ensures distinct { OnOk result (spec.AreDistinct (map (λ s. s.now) scripts.now)) }
     ensures fault { IfErr result (λ e. spec.IsFaultOf (map (λ s. s.now) scripts.now) e) }
 {
-    let mut table = ScriptTable::new(alloc, scripts)?;
-    let mut found = Vec::new(alloc);
-    for i in 0..names.len() {
-        let script = meant(alloc, &mut table, may_be_alike, names[i])?;
-        add_choice(&mut found, i, script)?;
-    }
-    Ok(found)
+    let table = ScriptTable::new(alloc, scripts)?;
+    Ok(chosen(alloc, table, may_be_alike, names)?)
 }

@@ -1,5 +1,5 @@
 //! Which of many maps and many scripts belong together, where maps are known by their files' names alone.
-ghost use Rattle.std.specs.Prelude.{◌≡◌, ◌≤◌, ℕ, IfOk, length, map};
+ghost use Rattle.std.specs.Prelude.{◌≡◌, ◌≤◌, ◌+◌, ℕ, List, [], IfOk, OnOk, get_or, length, map};
 ghost use Rattle.smap_link.specs.Endings as spec;
 ghost use Rattle.smap_link.specs.Ends.{BelongsTo, script_path as path_in, stem as stem_of};
 ghost use Rattle.smap_link.specs.Likeness.{AreMostAlike, IsMostAlike};
@@ -57,17 +57,28 @@ fn stems(alloc: Global, names: &[&[u8]]) -> Result<Vec<Vec<u8>>, AllocError>
     Ok(stems)
 }
 
+/// Adds a path, whose place this is.
+fn add_path(alloc: Global, endings: &mut Endings, path: &[u8], i: usize) -> Result<(), AllocError>
+    ensures { (paths : List (List ℕ)) → get_or paths i [] ≡ path.now → spec.HasEndings endings.old paths i
+        → OnOk result (spec.HasEndings endings.new paths (i + 1)) }
+{
+    let segment = Vec::from_slice(alloc, last_segment(path))?;
+    let before = endings.latest.insert(segment, i)?;
+    endings.earlier.push(before)?;
+    Ok(())
+}
+
 fn endings_of(alloc: Global, paths: &[Vec<u8>]) -> Result<Endings, AllocError>
     ensures { IfOk result (λ e. spec.AreEndings e (map (λ p. p.items) paths.now)) }
 {
-    let mut latest = IndexMap::new(alloc);
-    let mut earlier = Vec::new(alloc);
+    let mut endings = Endings {
+        latest: IndexMap::new(alloc),
+        earlier: Vec::new(alloc),
+    };
     for i in 0..paths.len() {
-        let segment = Vec::from_slice(alloc, last_segment(&paths[i]))?;
-        let before = latest.insert(segment, i)?;
-        earlier.push(before)?;
+        add_path(alloc, &mut endings, &paths[i], i)?;
     }
-    Ok(Endings { latest, earlier })
+    Ok(endings)
 }
 
 /// The path that is most like this one. Those that end in another segment aren't looked at.

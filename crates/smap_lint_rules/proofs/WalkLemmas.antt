@@ -1,7 +1,7 @@
 -- Steps of walks over a list.
-use Rattle.std.proofs.Common.{◌≡◌, ℕ, ◌+◌, ◌-◌, ◌<◌, ◌≤◌, Bool, true, false, List, [], ◌∷◌, length, take}
+use Rattle.std.proofs.Common.{◌≡◌, ℕ, ◌+◌, ◌<◌, ◌≤◌, Bool, true, false, List, [], ◌∷◌, length, take}
 use Rattle.std.proofs.Common.{drop, get_or, slice_get, Some, None, cond, min, option_map, refl, arith}
-use Rattle.std.proofs.Common.{add-one, zero-add, suc, ap, ◌∙◌, inl, inr, not, length-take}
+use Rattle.std.proofs.Common.{add-one, zero-add, ap, ◌∙◌, inl, inr, not, length-take}
 use Rattle.std.proofs.Common.{filter, find}
 use Rattle.std.specs.Prelude.{sum}
 use Rattle.std.proofs.Math.Seq.{drop-cons}
@@ -9,7 +9,7 @@ use Rattle.std.proofs.Math.ListN.{drop_of_length-le}
 use Rattle.std.proofs.lemmas.Option.{get_or_from_slice_get, slice_get_within, slice_get_cases}
 use Rattle.std.proofs.lemmas.List.Filters.{length-filter_more, length-filter_both}
 use Rattle.std.proofs.lemmas.List.Sums.{sum_by-append}
-use Rattle.std.proofs.lemmas.List.{take_more, take_rest}
+use Rattle.std.proofs.lemmas.List.{take_more}
 
 pub drop_at : {X : Type 0} (xs : List X) (i : ℕ) (x : X) → slice_get xs i ≡ Some x
     → drop i xs ≡ x ∷ drop (i + 1) xs
@@ -83,6 +83,24 @@ slice_get_drop xs i = elim (slice_get_cases xs i).1 as (λ _. slice_get (drop i 
   | inr f ↦ rw (f.1, drop_of_length-le xs f.0) refl
 ]
 
-pub none_next : {X : Type 0} (p : X → Bool) (xs : List X) (i : ℕ) → option_map p (slice_get xs i) ≡ Some false
-    → length (filter p (take i xs)) ≡ 0 → length (filter p (take (i + 1) xs)) ≡ 0
-none_next p xs i e none = rw (filter_next_by p xs i false e, none) refl
+-- the first that passes is this one
+pub find_here_by : {X : Type 0} (p : X → Bool) (xs : List X) (i : ℕ) (b : Bool)
+    → option_map p (slice_get xs i) ≡ Some b → b ≡ true → find p (drop i xs) ≡ slice_get xs i
+find_here_by p xs i b e t =
+    elim (slice_get_cases xs i).1 as (λ _. find p (drop i xs) ≡ slice_get xs i) [
+      | inl f ↦ rw (f.2, find_here p xs i f.0 f.2 (some_is (p f.0) b (rw f.2 at e) ∙ t)) refl
+      | inr f ↦ absurd (none_is b (rw f.1 at e))
+    ]
+
+-- this one doesn't pass
+pub find_later_by : {X : Type 0} (p : X → Bool) (xs : List X) (i : ℕ) (b : Bool)
+    → option_map p (slice_get xs i) ≡ Some b → b ≡ false → find p (drop i xs) ≡ find p (drop (i + 1) xs)
+find_later_by p xs i b e t =
+    elim (slice_get_cases xs i).1 as (λ _. find p (drop i xs) ≡ find p (drop (i + 1) xs)) [
+      | inl f ↦ find_later p xs i f.0 f.2 (some_is (p f.0) b (rw f.2 at e) ∙ t)
+      | inr f ↦ absurd (none_is b (rw f.1 at e))
+    ]
+
+-- none of those that are left
+pub find_none : {X : Type 0} (p : X → Bool) (xs : List X) (i : ℕ) → length xs ≤ i → find p (drop i xs) ≡ None
+find_none p xs i h = rw (drop_of_length-le xs h) refl

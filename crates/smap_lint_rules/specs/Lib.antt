@@ -6,3 +6,6 @@ pub mod Ids
 pub mod Contents
 pub mod Listed
 pub mod Checks
+pub mod Members
+pub mod Wording
+pub mod Findings

@@ -1,9 +1,10 @@
 //! The mappings that lead past the end of a source.
-ghost use Rattle.std.specs.Prelude.{◌≡◌, ◌<◌, IfOk, IfSome, length, filter, option_copied, option_map};
-ghost use Rattle.std.specs.Prelude.{slice_get, ◌++◌, ◌∷◌, [], OnOk, IfNone, take, true};
+ghost use Rattle.std.specs.Prelude.{◌≡◌, ◌<◌, IfOk, length, filter, find, option_and_then, option_copied};
+ghost use Rattle.std.specs.Prelude.{option_map, slice_get, ◌++◌, ◌∷◌, [], OnOk};
 ghost use Rattle.smap_lint_rules.specs.Contents as spec;
 ghost use Rattle.smap_lint_rules.specs.Contents.{AreWidths};
 ghost use Rattle.smap_record.specs.Record.{record_of};
+ghost use Rattle.smap_record.specs.Views.{origin_of_view};
 
 use crate::positions::counted;
 use smap_mappings::{has_separator, is_within, line_widths};
@@ -13,8 +14,8 @@ use std::alloc::{AllocError, Global};
 /// How wide the lines of a source are, if they can be told: it has a content, which has no U+2028 and no
 /// U+2029.
 #[derive(Drop)]
-pub struct Widths {
-    pub lines: Option<Vec<usize>>,
+pub(crate) struct Widths {
+    pub(crate) lines: Option<Vec<usize>>,
 }
 
 fn widths_of(alloc: Global, content: Option<&str>) -> Result<Widths, AllocError>
@@ -44,7 +45,7 @@ fn add_widths(all: &mut Vec<Widths>, widths: Widths) -> Result<(), AllocError>
 /// # Errors
 ///
 /// `AllocError`.
-pub fn content_widths(alloc: Global, map: &SourceMap) -> Result<Vec<Widths>, AllocError>
+pub(crate) fn content_widths(alloc: Global, map: &SourceMap) -> Result<Vec<Widths>, AllocError>
     ensures { IfOk result (λ widths. AreWidths map.now widths.items) }
 {
     let mut all = Vec::new(alloc);
@@ -98,7 +99,7 @@ fn leads_past(map: &SourceMap, widths: &[Widths], i: usize) -> bool
 /// How many mappings lead past the end of a source's content, or of one of its lines. `widths` are those that
 /// `content_widths` gives of this map.
 #[tactic(auto, using(crate::proofs::WalkLemmas::filter_bound))]
-pub fn count_originals_past_end(map: &SourceMap, widths: &[Widths]) -> usize
+pub(crate) fn count_originals_past_end(map: &SourceMap, widths: &[Widths]) -> usize
     requires { AreWidths map.now widths.now }
     ensures { result ≡ length (filter spec.leads_past (record_of map.now).mappings) }
 {
@@ -109,18 +110,18 @@ pub fn count_originals_past_end(map: &SourceMap, widths: &[Widths]) -> usize
     count
 }
 
-/// The number of the first of these mappings.
-pub fn first_original_past_end(map: &SourceMap, widths: &[Widths]) -> Option<usize>
+/// The original that the first of these mappings leads to.
+pub(crate) fn first_lost_original<'m>(
+    map: &'m SourceMap,
+    widths: &[Widths],
+) -> Option<OriginalView<'m>>
     requires { AreWidths map.now widths.now }
-    ensures found { IfSome result (λ i. option_map spec.leads_past
-        (slice_get (record_of map.now).mappings i) ≡ Some true) }
-    ensures first { IfSome result (λ i.
-        length (filter spec.leads_past (take i (record_of map.now).mappings)) ≡ 0) }
-    ensures none { IfNone result (length (filter spec.leads_past (record_of map.now).mappings) ≡ 0) }
+    ensures { option_map origin_of_view result
+        ≡ option_and_then (λ m. m.origin) (find spec.leads_past (record_of map.now).mappings) }
 {
     for i in 0..map.token_count() {
         if leads_past(map, widths, i) {
-            return Some(i);
+            return map.token(i).original;
         }
     }
     None

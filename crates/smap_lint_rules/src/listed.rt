@@ -9,7 +9,7 @@ use smap_record::SourceMap;
 use std::alloc::{AllocError, Global};
 
 /// How many of the listed sources are listed before: with the same URL, content and ignored flag.
-pub fn repeated_count(map: &SourceMap) -> usize
+pub(crate) fn repeated_count(map: &SourceMap) -> usize
     ensures { result ≡ length map.now.listing.sources - length (record_of map.now).sources }
 {
     map.listed_count().saturating_sub(map.source_count())
@@ -59,7 +59,7 @@ fn unmarked(alloc: Global, count: usize) -> Result<Vec<bool>, AllocError>
 /// # Errors
 ///
 /// `AllocError`.
-pub fn unused_count(alloc: Global, map: &SourceMap) -> Result<usize, AllocError>
+pub(crate) fn unused_count(alloc: Global, map: &SourceMap) -> Result<usize, AllocError>
     ensures { IfOk result (λ count. count
         ≡ length (spec.unused (length map.now.listing.names) map.now.listing.tokens)) }
 {

@@ -1,7 +1,11 @@
 //! What a map says beside its mappings.
-ghost use Rattle.std.specs.Prelude.{◌≡◌, IfOk, option_copied, option_map, string_bytes};
+ghost use Rattle.std.specs.Prelude.{◌≡◌, ◌++◌, ◌∷◌, [], IfOk, OnOk, codes, length, map as mapped};
+ghost use Rattle.std.specs.Prelude.{option_copied, option_map, slice_get, string_bytes};
+ghost use Rattle.std.specs.List.{flat_map};
+ghost use Rattle.serde_json.specs.Find.{as_array};
 ghost use Rattle.serde_json.specs.View.{view};
-ghost use Rattle.smap_lint_rules.specs.Ids as spec;
+ghost use Rattle.smap_lint_rules.specs.Ids.{map_id};
+ghost use Rattle.smap_lint_rules.specs.Members as spec;
 
 use crate::paths::is_machine_path;
 use serde_json::Value;
@@ -31,7 +35,7 @@ pub struct Paths {
 
 /// The debug id of a map.
 fn id_of<'a>(tree: &'a Value) -> Option<&'a str>
-    ensures { option_copied result ≡ spec.map_id (view tree.now) }
+    ensures { option_copied result ≡ map_id (view tree.now) }
 {
     let id = tree.get("debugId").or(tree.get("debug_id"))?;
     id.as_str()
@@ -49,83 +53,197 @@ fn owned(alloc: Global, text: Option<&str>) -> Result<Option<String>, AllocError
     }
 }
 
-fn is_absolute(root: &str) -> bool {
-    root.starts_with('/') || is_machine_path(root.as_bytes())
-}
-
-impl Paths {
-    /// Notes a `sourceRoot`.
-    fn note_root(&mut self, alloc: Global, map: &Value) -> Result<(), AllocError> {
-        let Some(root) = map.get("sourceRoot").and_then(Value::as_str) else {
-            return Ok(());
-        };
-        if self.absolute_root.is_none() && is_absolute(root) {
-            self.absolute_root = Some(String::from_str(alloc, root)?);
-        }
-        Ok(())
-    }
-
-    /// Notes a source.
-    fn note_source(&mut self, alloc: Global, source: &str) -> Result<(), AllocError> {
-        if !is_machine_path(source.as_bytes()) {
-            return Ok(());
-        }
-        self.machine_paths = self.machine_paths.saturating_add(1);
-        if self.machine_path.is_none() {
-            self.machine_path = Some(String::from_str(alloc, source)?);
-        }
-        Ok(())
-    }
-
-    /// Notes what a map without sections says.
-    fn note(&mut self, alloc: Global, map: &Value) -> Result<(), AllocError> {
-        self.note_root(alloc, map)?;
-        let Some(sources) = map.get("sources").and_then(Value::as_array) else {
-            return Ok(());
-        };
-        for source in sources {
-            if let Some(source) = source.as_str() {
-                self.note_source(alloc, source)?;
-            }
-        }
-        Ok(())
-    }
-}
-
-/// The sections of a map.
-fn sections_of(tree: &Value) -> &[Value] {
-    match tree.get("sections").and_then(Value::as_array) {
-        Some(sections) => sections.as_slice(),
+/// The values of an array, and none of anything else.
+fn values_of(value: &Value) -> &[Value]
+    ensures { mapped view result.now ≡ spec.values_if (as_array (view value.now)) }
+{
+    match value.as_array() {
+        Some(values) => values.as_slice(),
         None => &[],
     }
 }
 
-impl Paths {
-    /// Notes what the maps of sections say, and those of their sections, so many levels deep.
-    fn note_sections(&mut self, alloc: Global, levels: u8, tree: &Value) -> Result<(), AllocError> {
-        if levels == 0 {
-            return Ok(());
+/// The sections of a map.
+fn sections_of(tree: &Value) -> &[Value]
+    ensures { mapped view result.now ≡ spec.listed_at (codes "sections") (view tree.now) }
+{
+    match tree.get("sections") {
+        Some(sections) => values_of(sections),
+        None => &[],
+    }
+}
+
+/// The sources that a map without sections lists.
+fn sources_of(map: &Value) -> &[Value]
+    ensures { mapped view result.now ≡ spec.listed_at (codes "sources") (view map.now) }
+{
+    match map.get("sources") {
+        Some(sources) => values_of(sources),
+        None => &[],
+    }
+}
+
+#[tactic(auto, using(crate::proofs::MemberLemmas::map_push))]
+fn add_map<'v>(maps: &mut Vec<&'v Value>, map: &'v Value) -> Result<(), AllocError>
+    ensures { OnOk result (mapped (λ m. view m.now) maps.new.items
+        ≡ mapped (λ m. view m.now) maps.old.items ++ view map.now ∷ []) }
+{
+    match maps.push(map) {
+        Ok(()) => Ok(()),
+        Err(_) => Err(AllocError),
+    }
+}
+
+/// Adds the map of a section, and those of its sections, so many levels deep.
+#[cycle(levels)]
+#[tactic(auto, using(std::proofs::lemmas::List::append_assoc))]
+fn add_section<'v>(
+    levels: u8,
+    section: &'v Value,
+    maps: &mut Vec<&'v Value>,
+) -> Result<(), AllocError>
+    ensures { OnOk result (mapped (λ m. view m.now) maps.new.items
+        ≡ mapped (λ m. view m.now) maps.old.items ++ spec.maps_of_section levels (view section.now)) }
+{
+    let Some(map) = section.get("map") else {
+        return Ok(());
+    };
+    add_map(maps, map)?;
+    add_below(levels, map, maps)
+}
+
+/// Adds the maps of the sections of a map, and of theirs, so many levels deep.
+#[cycle(levels)]
+fn add_below<'v>(levels: u8, tree: &'v Value, maps: &mut Vec<&'v Value>) -> Result<(), AllocError>
+    ensures { OnOk result (mapped (λ m. view m.now) maps.new.items
+        ≡ mapped (λ m. view m.now) maps.old.items ++ spec.maps_below levels (view tree.now)) }
+{
+    if levels == 0 {
+        return Ok(());
+    }
+    let sections = sections_of(tree);
+    for i in 0..sections.len() {
+        add_section(levels - 1, &sections[i], maps)?;
+    }
+    Ok(())
+}
+
+/// A map and those of its sections, at every level.
+fn maps_in<'v>(alloc: Global, tree: &'v Value) -> Result<Vec<&'v Value>, AllocError>
+    ensures { IfOk result (λ maps. mapped (λ m. view m.now) maps.items ≡ spec.maps_in (view tree.now)) }
+{
+    let mut maps = Vec::new(alloc);
+    add_map(&mut maps, tree)?;
+    add_below(MOST_LEVELS, tree, &mut maps)?;
+    Ok(maps)
+}
+
+fn is_absolute(root: &str) -> bool
+    ensures { result ≡ spec.is_absolute root.now }
+{
+    root.as_bytes().starts_with(b"/") || is_machine_path(root.as_bytes())
+}
+
+#[tactic(auto, using(crate::proofs::MemberLemmas::map_push))]
+fn add_path<'v>(found: &mut Vec<&'v str>, path: &'v str) -> Result<(), AllocError>
+    ensures { OnOk result (mapped (λ p. p.now) found.new.items
+        ≡ mapped (λ p. p.now) found.old.items ++ path.now ∷ []) }
+{
+    match found.push(path) {
+        Ok(()) => Ok(()),
+        Err(_) => Err(AllocError),
+    }
+}
+
+/// Adds a source, if it is named by a path of the machine that built the map.
+fn add_source<'v>(source: &'v Value, found: &mut Vec<&'v str>) -> Result<(), AllocError>
+    ensures { OnOk result (mapped (λ p. p.now) found.new.items
+        ≡ mapped (λ p. p.now) found.old.items ++ spec.machine_path_of (view source.now)) }
+{
+    let Some(path) = source.as_str() else {
+        return Ok(());
+    };
+    if is_machine_path(path.as_bytes()) {
+        return add_path(found, path);
+    }
+    Ok(())
+}
+
+/// Adds the sources of a map without sections that are named so.
+fn add_sources<'v>(map: &'v Value, found: &mut Vec<&'v str>) -> Result<(), AllocError>
+    ensures { OnOk result (mapped (λ p. p.now) found.new.items
+        ≡ mapped (λ p. p.now) found.old.items ++ spec.machine_paths_of (view map.now)) }
+{
+    let sources = sources_of(map);
+    for i in 0..sources.len() {
+        add_source(&sources[i], found)?;
+    }
+    Ok(())
+}
+
+/// The sources of these maps that are named so.
+fn machine_paths<'v>(alloc: Global, maps: &[&'v Value]) -> Result<Vec<&'v str>, AllocError>
+    ensures { IfOk result (λ found. mapped (λ p. p.now) found.items
+        ≡ flat_map spec.machine_paths_of (mapped (λ m. view m.now) maps.now)) }
+{
+    let mut found = Vec::new(alloc);
+    for i in 0..maps.len() {
+        add_sources(maps[i], &mut found)?;
+    }
+    Ok(found)
+}
+
+/// The `sourceRoot` of a map, if it is an absolute path.
+fn absolute_root_of(map: &Value) -> Option<&str>
+    ensures { option_copied result ≡ slice_get (spec.absolute_root_of (view map.now)) 0 }
+{
+    let root = map.get("sourceRoot")?.as_str()?;
+    if is_absolute(root) { Some(root) } else { None }
+}
+
+/// The first `sourceRoot` of these maps that is an absolute path.
+fn absolute_root<'v>(maps: &[&'v Value]) -> Option<&'v str>
+    ensures { option_copied result
+        ≡ slice_get (flat_map spec.absolute_root_of (mapped (λ m. view m.now) maps.now)) 0 }
+{
+    for i in 0..maps.len() {
+        match absolute_root_of(maps[i]) {
+            Some(root) => return Some(root),
+            None => {}
         }
-        for section in sections_of(tree) {
-            if let Some(map) = section.get("map") {
-                self.note(alloc, map)?;
-                self.note_sections(alloc, levels - 1, map)?;
-            }
-        }
-        Ok(())
+    }
+    None
+}
+
+/// The first of some paths.
+#[tactic(auto, using(crate::proofs::MemberLemmas::first_mapped))]
+fn first_of<'v>(paths: &[&'v str]) -> Option<&'v str>
+    ensures { option_copied result ≡ slice_get (mapped (λ p. p.now) paths.now) 0 }
+{
+    match paths.first() {
+        Some(path) => Some(*path),
+        None => None,
     }
 }
 
 /// The paths of a map and of its sections.
-fn paths_of(alloc: Global, tree: &Value) -> Result<Paths, AllocError> {
-    let mut paths = Paths {
-        absolute_root: None,
-        machine_path: None,
-        machine_paths: 0,
-    };
-    paths.note(alloc, tree)?;
-    paths.note_sections(alloc, MOST_LEVELS, tree)?;
-    Ok(paths)
+fn paths_of(alloc: Global, tree: &Value) -> Result<Paths, AllocError>
+    ensures absolute_root { IfOk result (λ p. option_map string_bytes p.absolute_root
+        ≡ slice_get (spec.absolute_roots (view tree.now)) 0) }
+    ensures machine_path { IfOk result (λ p. option_map string_bytes p.machine_path
+        ≡ slice_get (spec.machine_paths (view tree.now)) 0) }
+    ensures machine_paths { IfOk result (λ p. p.machine_paths
+        ≡ length (spec.machine_paths (view tree.now))) }
+{
+    let maps = maps_in(alloc, tree)?;
+    let absolute_root = owned(alloc, absolute_root(&maps))?;
+    let paths = machine_paths(alloc, &maps)?;
+    let machine_path = owned(alloc, first_of(&paths))?;
+    Ok(Paths {
+        absolute_root,
+        machine_path,
+        machine_paths: paths.len(),
+    })
 }
 
 /// What a map says beside its mappings. Of an index map, its sections are looked at too, at every level.
@@ -134,7 +252,13 @@ fn paths_of(alloc: Global, tree: &Value) -> Result<Paths, AllocError> {
 ///
 /// `AllocError`.
 pub fn members_of(alloc: Global, tree: &Value) -> Result<Members, AllocError>
-    ensures debug_id { IfOk result (λ m. option_map string_bytes m.debug_id ≡ spec.map_id (view tree.now)) }
+    ensures debug_id { IfOk result (λ m. option_map string_bytes m.debug_id ≡ map_id (view tree.now)) }
+    ensures absolute_root { IfOk result (λ m. option_map string_bytes m.paths.absolute_root
+        ≡ slice_get (spec.absolute_roots (view tree.now)) 0) }
+    ensures machine_path { IfOk result (λ m. option_map string_bytes m.paths.machine_path
+        ≡ slice_get (spec.machine_paths (view tree.now)) 0) }
+    ensures machine_paths { IfOk result (λ m. m.paths.machine_paths
+        ≡ length (spec.machine_paths (view tree.now))) }
 {
     let debug_id = owned(alloc, id_of(tree))?;
     let paths = paths_of(alloc, tree)?;

@@ -40,7 +40,7 @@ fn without_scheme<'a>(path: &'a [u8]) -> &'a [u8]
 /// Whether a source is named by a path of the machine that built the map: a `file:` URL, a Windows path with
 /// a drive or of a share, or a path below a folder that servers don't show, as `/home/`; also behind
 /// `webpack:///`.
-pub fn is_machine_path(path: &[u8]) -> bool
+pub(crate) fn is_machine_path(path: &[u8]) -> bool
     ensures { result ≡ spec.is_machine_path path.now }
 {
     let path = without_scheme(path);

@@ -22,7 +22,7 @@ pub(crate) fn counted(count: usize, counts: bool) -> usize
 
 /// How many mappings begin past the end of a script, or of one of its lines, which are so wide.
 #[tactic(auto, using(crate::proofs::WalkLemmas::filter_bound))]
-pub fn count_past_end(map: &SourceMap, widths: &[usize]) -> usize
+pub(crate) fn count_past_end(map: &SourceMap, widths: &[usize]) -> usize
     ensures { result ≡ length (filter (spec.is_past_end widths.now) map.now.listing.tokens) }
 {
     let mut count = 0;
@@ -33,7 +33,7 @@ pub fn count_past_end(map: &SourceMap, widths: &[usize]) -> usize
 }
 
 /// The first of these mappings.
-pub fn first_past_end(map: &SourceMap, widths: &[usize]) -> Option<Token>
+pub(crate) fn first_past_end(map: &SourceMap, widths: &[usize]) -> Option<Token>
     ensures { result ≡ find (spec.is_past_end widths.now) map.now.listing.tokens }
 {
     for i in 0..map.token_count() {

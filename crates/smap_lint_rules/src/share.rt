@@ -6,7 +6,7 @@ use smap_mappings::Token;
 use smap_record::SourceMap;
 
 /// How many UTF-16 units the lines of a script have, without their ends.
-pub fn unit_count(widths: &[usize]) -> usize
+pub(crate) fn unit_count(widths: &[usize]) -> usize
     ensures { result ≡ min (sum widths.now) (2 ^ 64 - 1) }
 {
     let mut count = 0usize;
@@ -60,7 +60,7 @@ fn covered(widths: &[usize], token: Token, next: Option<Token>) -> usize
 
 /// How many UTF-16 units of a script whose lines are so wide have an original: those that a mapping with an
 /// original covers.
-pub fn mapped_units(map: &SourceMap, widths: &[usize]) -> usize
+pub(crate) fn mapped_units(map: &SourceMap, widths: &[usize]) -> usize
     ensures { result ≡ min (spec.mapped_units widths.now map.now.listing.tokens) (2 ^ 64 - 1) }
 {
     let mut count = 0usize;

@@ -1,6 +1,6 @@
 //! What is asked of a run.
-use smap_lint_rules::{RULES, rule_named};
-use smap_report::{Format, Level};
+use smap_lint_rules::rule_named;
+use smap_report::{Format, Level, Rule};
 use smap_system::{Disk, Host, Stop};
 use std::alloc::{AllocError, Global};
 
@@ -21,18 +21,18 @@ pub struct LintAsked<'a> {
 }
 
 /// The levels that rules have unless others are set.
-fn usual_levels(alloc: Global) -> Result<Vec<Option<Level>>, AllocError> {
+fn usual_levels(alloc: Global, rules: &[Rule]) -> Result<Vec<Option<Level>>, AllocError> {
     let mut levels = Vec::new(alloc);
-    for rule in &RULES {
+    for rule in rules {
         levels.push(Some(rule.level))?;
     }
     Ok(levels)
 }
 
 /// The names of all rules, with commas between them.
-fn rule_names(alloc: Global) -> Result<String, AllocError> {
+fn rule_names(alloc: Global, rules: &[Rule]) -> Result<String, AllocError> {
     let mut names = String::new(alloc);
-    for rule in &RULES {
+    for rule in rules {
         if !names.is_empty() {
             names.push_str(", ")?;
         }
@@ -41,9 +41,13 @@ fn rule_names(alloc: Global) -> Result<String, AllocError> {
     Ok(names)
 }
 
-fn fail_rule<E: Eprint + AllocGlobal, D: Disk>(host: &Host<'_, E, D>, name: &str) -> Stop {
+fn fail_rule<E: Eprint + AllocGlobal, D: Disk>(
+    host: &Host<'_, E, D>,
+    rules: &[Rule],
+    name: &str,
+) -> Stop {
     let alloc = host.alloc();
-    let Ok(names) = rule_names(alloc) else {
+    let Ok(names) = rule_names(alloc, rules) else {
         return Stop::Memory;
     };
     let names = names.as_str();
@@ -53,15 +57,16 @@ fn fail_rule<E: Eprint + AllocGlobal, D: Disk>(host: &Host<'_, E, D>, name: &str
     }
 }
 
-/// The level of each rule, in the order of the rules.
+/// The level of each of these rules, in their order.
 pub(crate) fn levels_of<E: Eprint + AllocGlobal, D: Disk>(
     host: &Host<'_, E, D>,
+    rules: &[Rule],
     asked: &LintAsked<'_>,
 ) -> Result<Vec<Option<Level>>, Stop> {
-    let mut levels = usual_levels(host.alloc())?;
+    let mut levels = usual_levels(host.alloc(), rules)?;
     for (name, level) in &asked.rules {
         let Some(number) = rule_named(name) else {
-            return Err(fail_rule(host, name));
+            return Err(fail_rule(host, rules, name));
         };
         if let Some(place) = levels.get_mut(number) {
             *place = *level;

@@ -1,6 +1,5 @@
 //! What a run has found so far.
-use crate::wording::mapless_words;
-use smap_lint_rules::Check;
+use smap_lint_rules::{Check, Remark, mapless_words};
 use smap_report::{Finding, Level, Point};
 use std::alloc::{AllocError, Global};
 
@@ -76,6 +75,15 @@ impl Book {
         message: String,
     ) -> Result<(), AllocError> {
         self.add_at(check, file, None, message)
+    }
+
+    /// Notes what was found in a map and its script, in the file that holds the map.
+    pub(crate) fn add_all(&mut self, file: &str, found: Vec<Remark>) -> Result<(), AllocError> {
+        for remark in found {
+            let Remark { check, message } = remark;
+            self.add(check, file, message)?;
+        }
+        Ok(())
     }
 
     /// The same in these words.

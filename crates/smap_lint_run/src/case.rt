@@ -1,12 +1,11 @@
 //! A map that is looked at, and the script that has it.
 use crate::book::Book;
 use crate::folder::Folder;
-use crate::scripts::Script;
 use smap_fault_places::{point_of, range_of};
 use smap_link::script_url;
-use smap_lint_rules::Check;
+use smap_lint_rules::{Check, Members, Pair, Remark, Script, lint_pair, members_of};
 use smap_map_files::MapText;
-use smap_record::{Base, BaseFault, Fault, Limits, ReadError, SourceMap};
+use smap_record::{Base, BaseFault, Fault, Limits, ReadError, SourceMap, map_tree};
 use smap_report::Point;
 use smap_system::Disk;
 use std::alloc::AllocError;
@@ -25,11 +24,6 @@ pub(crate) struct Case<'a, 's> {
 }
 
 impl Case<'_, '_> {
-    /// Notes what was found in the map.
-    pub(crate) fn add(&mut self, check: Check, message: String) -> Result<(), AllocError> {
-        self.book.add(check, self.file, message)
-    }
-
     /// The URL of the file that holds the map.
     fn base(&self) -> Result<Option<Base>, AllocError> {
         let alloc = self.book.alloc;
@@ -79,7 +73,7 @@ impl Case<'_, '_> {
         let message = format!(in self.book.alloc;
             "the URLs of its sources take more than {most} bytes (--url-bytes allows more)"
         )?;
-        self.add(Check::RefusedMap, message)
+        self.book.add(Check::RefusedMap, self.file, message)
     }
 
     /// The map that these bytes are; none where it is refused, as is noted.
@@ -102,17 +96,56 @@ impl Case<'_, '_> {
         }
     }
 
+    /// What the map that these bytes are says beside its mappings.
+    fn members(&self, bytes: &[u8]) -> Result<Option<Members>, AllocError> {
+        let alloc = self.book.alloc;
+        match map_tree(alloc, bytes) {
+            Ok(tree) => Ok(Some(members_of(alloc, &tree)?)),
+            Err(ReadError::Memory) => Err(AllocError),
+            Err(ReadError::Refused(_)) => Ok(None),
+        }
+    }
+
+    /// The map that these bytes are, and what it says beside its mappings; none where it is refused.
+    fn read_whole(&mut self, bytes: &[u8]) -> Result<Option<(SourceMap, Members)>, AllocError> {
+        let Some(map) = self.read(bytes)? else {
+            return Ok(None);
+        };
+        match self.members(bytes)? {
+            Some(members) => Ok(Some((map, members))),
+            None => Ok(None),
+        }
+    }
+
+    /// What is found in the map, and in how it fits its script.
+    fn findings<D: Disk>(
+        &self,
+        disk: &D,
+        map: &SourceMap,
+        members: &Members,
+    ) -> Result<Vec<Remark>, AllocError> {
+        let (missing, stale) = self.look_for_sources(disk, map)?;
+        let pair = Pair {
+            map,
+            members,
+            script: self.script,
+            is_inline: self.is_inline,
+            folder: self.folder.url.as_str(),
+            min_mapped: self.book.min_mapped,
+            missing,
+            stale,
+        };
+        lint_pair(self.book.alloc, &pair)
+    }
+
     /// Lints the map that these bytes are, and how it fits its script.
     pub(crate) fn lint<D: Disk>(&mut self, disk: &D, bytes: Vec<u8>) -> Result<(), AllocError> {
-        let Some(map) = self.read(&bytes)? else {
+        let whole = self.read_whole(&bytes)?;
+        drop(bytes);
+        let Some((map, members)) = whole else {
             return Ok(());
         };
-        self.lint_members(&bytes)?;
-        drop(bytes);
-        self.lint_generated(&map)?;
-        self.lint_originals(&map)?;
-        self.lint_sources(disk, &map)?;
-        self.lint_chains(&map)?;
-        self.lint_lists(&map)
+        let found = self.findings(disk, &map, &members)?;
+        self.book.add_all(self.file, found)
     }
 }

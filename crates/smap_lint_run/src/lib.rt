@@ -7,17 +7,13 @@
 mod asked;
 mod book;
 mod case;
-mod chains;
 mod folder;
 mod links;
-mod maps;
-mod positions;
 mod program;
 mod refusing;
 mod scripts;
 mod source_files;
 mod visit;
-mod wording;
 
 pub use asked::LintAsked;
 pub use program::lint;

@@ -3,22 +3,49 @@ use crate::asked::{LintAsked, levels_of};
 use crate::book::Book;
 use crate::visit::lint_folder;
 use smap_lint_rules::RULES;
-use smap_report::{Report, has_error, report_text};
+use smap_report::{Report, Rule, has_error, report_text};
 use smap_system::{Disk, Host, Stop, Watched};
 use std::io::Write;
 
-/// Lints all folders.
+/// Lints all folders by these rules.
 fn lint_folders<E: Eprint + AllocGlobal, D: Disk>(
     host: &Host<'_, E, D>,
+    rules: &[Rule],
     asked: &LintAsked<'_>,
 ) -> Result<Book, Stop> {
-    let levels = levels_of(host, asked)?;
+    let levels = levels_of(host, rules, asked)?;
     let mut book = Book::new(host.alloc(), levels, asked.min_mapped, asked.url_bytes);
     for given in &asked.folders {
         lint_folder(host, &mut book, given)?;
     }
     book.finish()?;
     Ok(book)
+}
+
+/// Lints what is asked for by these rules, and writes the report.
+fn lint_by<E: Eprint + AllocGlobal, D: Disk, W: Write>(
+    host: &Host<'_, E, D>,
+    rules: &[Rule],
+    asked: &LintAsked<'_>,
+    writer: &mut Watched<W>,
+) -> Result<(), Stop> {
+    let book = lint_folders(host, rules, asked)?;
+    let report = Report {
+        tool: host.name,
+        version: asked.version,
+        rules,
+        files: book.files.as_slice(),
+        findings: book.findings.as_slice(),
+    };
+    let text = report_text(host.alloc(), &report, asked.format)?;
+    host.write(text.as_str().as_bytes(), writer)?;
+    if book.unread {
+        return Err(Stop::Reported(3));
+    }
+    if has_error(report.findings) {
+        return Err(Stop::Reported(1));
+    }
+    Ok(())
 }
 
 /// Lints what is asked for, and writes the report. What can't be read, and why a run ends early, is said on
@@ -34,21 +61,5 @@ pub fn lint<E: Eprint + AllocGlobal, D: Disk, W: Write>(
     asked: &LintAsked<'_>,
     writer: &mut Watched<W>,
 ) -> Result<(), Stop> {
-    let book = lint_folders(host, asked)?;
-    let report = Report {
-        tool: host.name,
-        version: asked.version,
-        rules: &RULES,
-        files: book.files.as_slice(),
-        findings: book.findings.as_slice(),
-    };
-    let text = report_text(host.alloc(), &report, asked.format)?;
-    host.write(text.as_str().as_bytes(), writer)?;
-    if book.unread {
-        return Err(Stop::Reported(3));
-    }
-    if has_error(report.findings) {
-        return Err(Stop::Reported(1));
-    }
-    Ok(())
+    lint_by(host, &RULES, asked, writer)
 }

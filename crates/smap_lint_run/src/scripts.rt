@@ -19,6 +19,16 @@ pub(crate) struct Script<'a> {
     pub(crate) text: &'a [u8],
 }
 
+impl<'a> Script<'a> {
+    /// What the rules of a map and its script look at.
+    fn in_pair(self) -> smap_lint_rules::Script<'a> {
+        smap_lint_rules::Script {
+            name: self.name,
+            text: self.text,
+        }
+    }
+}
+
 impl<E: Eprint + AllocGlobal, D: Disk> Visit<'_, '_, E, D> {
     /// Notes the map that lies beside a script which has another one, if there is one.
     fn note_second(&mut self, script: Script<'_>, has: &str) -> Result<(), AllocError> {
@@ -56,7 +66,7 @@ impl<E: Eprint + AllocGlobal, D: Disk> Visit<'_, '_, E, D> {
             file: file.as_str(),
             name: map,
             is_inline: false,
-            script: Some(script),
+            script: Some(script.in_pair()),
         };
         case.lint(self.host.disk, bytes)?;
         Ok(())
@@ -79,7 +89,7 @@ impl<E: Eprint + AllocGlobal, D: Disk> Visit<'_, '_, E, D> {
             file: script.file,
             name: script.name,
             is_inline: true,
-            script: Some(script),
+            script: Some(script.in_pair()),
         };
         case.lint(self.host.disk, bytes)?;
         Ok(())

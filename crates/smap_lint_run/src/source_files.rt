@@ -1,9 +1,8 @@
 //! The files of sources.
 use crate::case::Case;
 use crate::folder::has_no_size;
-use crate::wording::{example, one_or_more, some_of};
 use smap_link::{PathFault, file_path, script_url};
-use smap_lint_rules::{Check, normal_text, same_text};
+use smap_lint_rules::{Wrong, normal_text, same_text};
 use smap_record::{SourceMap, SourceView};
 use smap_system::{Disk, Kind, LIMIT};
 use std::alloc::{AllocError, Global};
@@ -27,38 +26,6 @@ struct Kept<'a> {
     number: usize,
     path: String,
     content: &'a str,
-}
-
-/// The contents that aren't those of their files: how many, and the number of the first.
-#[derive(Clone, Copy)]
-struct Stale {
-    count: usize,
-    first: usize,
-}
-
-impl Stale {
-    fn with(self, number: usize) -> Stale {
-        Stale {
-            count: self.count.saturating_add(1),
-            first: self.first.min(number),
-        }
-    }
-}
-
-/// Sources that are wrong in one way: how many, and the first one's URL.
-#[derive(Clone, Copy)]
-struct Tally<'a> {
-    count: usize,
-    first: &'a str,
-}
-
-impl<'a> Tally<'a> {
-    fn with(self, url: &'a str) -> Tally<'a> {
-        Tally {
-            count: self.count.saturating_add(1),
-            first: if self.count == 0 { url } else { self.first },
-        }
-    }
 }
 
 /// The path of a source's file, if its URL is that of a file of this machine.
@@ -152,15 +119,12 @@ fn stale_among<D: Disk>(
     alloc: Global,
     disk: &D,
     mut kept: Vec<Kept<'_>>,
-) -> Result<Stale, AllocError> {
+) -> Result<Wrong, AllocError> {
     kept.sort_by(|a, b| match a.path.as_str().cmp(b.path.as_str()) {
         Ordering::Equal => b.content.len().cmp(&a.content.len()),
         other => other,
     })?;
-    let mut stale = Stale {
-        count: 0,
-        first: usize::MAX,
-    };
+    let mut stale = Wrong::new();
     let mut path = "";
     let mut text = None;
     for one in &kept {
@@ -190,63 +154,25 @@ impl Case<'_, '_> {
         }
     }
 
-    /// A URL below the folder without the folder's.
-    pub(crate) fn own_part<'u>(&self, url: &'u str) -> &'u str {
-        url.strip_prefix(self.folder.url.as_str()).unwrap_or(url)
-    }
-
-    /// Notes the sources that have neither a content nor a file, of so many.
-    fn add_missing(&mut self, missing: Tally<'_>, total: usize) -> Result<(), AllocError> {
-        let Tally { count, first } = missing;
-        if count == 0 {
-            return Ok(());
-        }
-        let alloc = self.book.alloc;
-        let sources = some_of(alloc, count, total, "source")?;
-        let example = example(alloc, count, self.own_part(first))?;
-        let has = one_or_more(count, "has", "have");
-        let message = format!(in alloc; "{sources} {has} neither content nor file{example}")?;
-        self.add(Check::MissingSource, message)
-    }
-
-    /// Notes the contents that aren't those of their files.
-    fn add_stale(&mut self, map: &SourceMap, stale: Stale) -> Result<(), AllocError> {
-        let total = map.source_count();
-        let Stale { count, first } = stale;
-        if first >= total {
-            return Ok(());
-        }
-        let alloc = self.book.alloc;
-        let first = self.own_part(map.source(first).url.unwrap_or(""));
-        let sources = some_of(alloc, count, total, "source")?;
-        let example = example(alloc, count, first)?;
-        let files = one_or_more(count, "its file", "their files");
-        let message = format!(in alloc; "the content of {sources} differs from {files}{example}")?;
-        self.add(Check::StaleContent, message)
-    }
-
-    /// Lints the sources of the map.
-    pub(crate) fn lint_sources<D: Disk>(
-        &mut self,
+    /// The sources of the map that have neither a content nor a file, and those whose contents aren't those
+    /// of their files.
+    pub(crate) fn look_for_sources<D: Disk>(
+        &self,
         disk: &D,
         map: &SourceMap,
-    ) -> Result<(), AllocError> {
+    ) -> Result<(Wrong, Wrong), AllocError> {
         let alloc = self.book.alloc;
         let script = self.own_script()?;
-        let total = map.source_count();
-        let mut missing = Tally {
-            count: 0,
-            first: "",
-        };
+        let mut missing = Wrong::new();
         let mut kept = Vec::new(alloc);
-        for number in 0..total {
+        for number in 0..map.source_count() {
             let SourceView { url, content, .. } = map.source(number);
             let Some(url) = url else {
                 continue;
             };
             match look_for(alloc, disk, &script, url, content)? {
                 Found::Good => {}
-                Found::Missing => missing = missing.with(url),
+                Found::Missing => missing = missing.with(number),
                 Found::Both(path) => {
                     let content = content.unwrap_or("");
                     kept.push(Kept {
@@ -257,8 +183,7 @@ impl Case<'_, '_> {
                 }
             }
         }
-        self.add_missing(missing, total)?;
         let stale = stale_among(alloc, disk, kept)?;
-        self.add_stale(map, stale)
+        Ok((missing, stale))
     }
 }

@@ -1,9 +1,9 @@
 -- Where the URL of a script may begin.
-use Rattle.std.specs.Prelude.{ℕ, zero, suc, ◌+◌, ◌-◌, ◌<◌, ◌==◌, ◌&&◌, ◌||◌, Bool, not, cond, List, []}
-use Rattle.std.specs.Prelude.{◌∷◌, codes, drop, take, find, nat_eq, nat_le, nat_lt, slice_index, slice_range}
-use Rattle.std.specs.Prelude.{IfSome, Option, None, Some}
+use Rattle.std.specs.Prelude.{ℕ, zero, suc, ◌+◌, ◌-◌, ◌<◌, ◌==◌, ◌&&◌, ◌||◌, Bool, false, not, cond, List, []}
+use Rattle.std.specs.Prelude.{◌∷◌, codes, drop, take, find, length, nat_eq, nat_le, nat_lt, slice_index}
+use Rattle.std.specs.Prelude.{IfSome, Option, None, Some, slice_range}
 use Rattle.std.specs.Char.{is_ascii_alphabetic}
-use Rattle.std.specs.List.{ends_with, prefix_len, slice_get, starts_with, suffix_len}
+use Rattle.std.specs.List.{ends_with, list_any, prefix_len, slice_get, starts_with, suffix_len}
 use Rattle.std.specs.Option.{option_or}
 use Rattle.smap_frames.specs.Places.{may_begin}
 use Rattle.smap_logs.specs.Bytes.{ends_url, is_scheme_byte}
@@ -52,6 +52,37 @@ chosen line end starts = record {
 -- where a URL of at most 1,024 bytes may begin that ends here
 abbrev pub beginnings : List ℕ → ℕ → Beginnings
 beginnings line end = chosen line end (starts_below line (end - 1024) end)
+
+-- ---- names within a URL
+
+-- a quotation mark, `(`, `<`, `>` or `@`: a URL before it isn't taken to go on behind it
+abbrev pub parts : ℕ → Bool
+parts b = list_any (λ c. c == b) (codes "\"'`(<>@")
+
+abbrev pub is_parted : List ℕ → Bool
+is_parted before = list_any parts (drop (length before - 1) before)
+
+abbrev pub is_before : Option ℕ → ℕ → Bool
+is_before None at = false
+is_before (Some start) at = nat_lt start at
+
+-- Whether what begins here isn't within a URL, or a path from a root, that begins before it.
+abbrev pub is_apart : List ℕ → Beginnings → ℕ → Bool
+is_apart line found at =
+    not (is_before found.scheme at || is_before found.root at) || is_parted (take at line)
+
+abbrev pub if_apart : List ℕ → Beginnings → Option ℕ → Option ℕ
+if_apart line found None = None
+if_apart line found (Some at) = cond (is_apart line found at) (Some at) None
+
+-- these beginnings, the nearest of them only if it is so
+abbrev pub apart : List ℕ → Beginnings → Beginnings
+apart line found = record {
+  nearest = if_apart line found found.nearest;
+  scheme = found.scheme;
+  root = found.root;
+  farthest = found.farthest;
+}
 
 -- each of them is before this place
 pub record AreBefore (end : ℕ) (found : Beginnings) : Type 0 where

@@ -5,7 +5,7 @@ use Rattle.std.specs.Prelude.{None, Some}
 use Rattle.std.specs.Char.{is_ascii_digit}
 use Rattle.std.specs.List.{All, list_any, prefix_len, slice_get, starts_with}
 use Rattle.std.specs.Option.{option_map, option_map_or}
-use Rattle.smap_logs.specs.Beginnings.{beginnings, last, path_start}
+use Rattle.smap_logs.specs.Beginnings.{apart, beginnings, last, path_start}
 use Rattle.smap_logs.specs.declared.runs.Place.{Place}
 use Rattle.smap_logs.specs.declared.runs.Run.{Run}
 use Rattle.smap_logs.specs.declared.spans.Span.{Span}
@@ -71,7 +71,7 @@ path_before line place =
 
 -- the spans of one position
 abbrev pub spans_at : List ℕ → Place → List Span
-spans_at line place = let found = beginnings line place.start in
+spans_at line place = let found = apart line (beginnings line place.start) in
     span_if place found.nearest []
     ++ (span_if place found.scheme (found.nearest ∷ [])
     ++ (span_if place found.root (found.nearest ∷ found.scheme ∷ [])

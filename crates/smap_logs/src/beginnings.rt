@@ -94,6 +94,58 @@ impl Beginnings {
     }
 }
 
+/// Whether a URL before this byte isn't taken to go on behind it.
+fn parts(b: u8) -> bool
+    ensures { result ≡ spec.parts b }
+{
+    b"\"'`(<>@".contains(&b)
+}
+
+fn is_parted(before: &[u8]) -> bool
+    ensures { result ≡ spec.is_parted before.now }
+{
+    match before.last() {
+        Some(b) => parts(*b),
+        None => false,
+    }
+}
+
+fn is_before(place: Option<usize>, at: usize) -> bool
+    ensures { result ≡ spec.is_before place at }
+{
+    match place {
+        Some(start) => start < at,
+        None => false,
+    }
+}
+
+impl Beginnings {
+    /// Whether what begins here isn't within a URL, or a path from a root, that begins before it.
+    fn is_apart(self, line: &[u8], at: usize) -> bool
+        requires { at ≤ length line.now }
+        ensures { result ≡ spec.is_apart line.now self at }
+    {
+        let is_within = is_before(self.scheme, at) || is_before(self.root, at);
+        !is_within || is_parted(&line[..at])
+    }
+
+    /// The same beginnings before this place, the nearest of them only if it is so.
+    pub(crate) fn apart(self, line: &[u8], end: usize) -> Beginnings
+        requires before { AreBefore end self }
+        requires end { end ≤ length line.now }
+        ensures value { result ≡ spec.apart line.now self }
+        ensures before { AreBefore end result }
+    {
+        match self.nearest {
+            Some(at) if !self.is_apart(line, at) => Beginnings {
+                nearest: None,
+                ..self
+            },
+            _ => self,
+        }
+    }
+}
+
 /// Where a URL may begin that ends here.
 pub(crate) fn beginnings_of(line: &[u8], end: usize) -> Beginnings
     requires { end ≤ length line.now }

@@ -212,19 +212,6 @@ impl Names {
         }
         Ok(())
     }
-
-    /// The name that most lines have; of several the first.
-    pub fn most_frequent(&self) -> Option<&[u8]> {
-        let mut best: Option<&[u8]> = None;
-        let mut most = 0;
-        for (name, count) in self.frames.iter() {
-            if *count > most {
-                most = *count;
-                best = Some(name.as_slice());
-            }
-        }
-        best
-    }
 }
 
 /// Whether a name has a control character.

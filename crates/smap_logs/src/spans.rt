@@ -81,7 +81,7 @@ fn add_spans_at(line: &[u8], place: Place, spans: &mut Vec<Span>) -> Result<(), 
     ensures ok { OnOk result (spans.new.items ≡ spans.old.items ++ spec.spans_at line.now place) }
     ensures within { AddsSpans (length line.now) spans.old.items spans.new.items }
 {
-    let found = beginnings_of(line, place.start);
+    let found = beginnings_of(line, place.start).apart(line, place.start);
     let Beginnings {
         nearest,
         scheme,
@@ -126,7 +126,8 @@ fn add_spans_of(line: &[u8], run: Run, spans: &mut Vec<Span>) -> Result<(), Allo
 /// A position is `:L:C`, both numbers taken whole; of a run of more numbers, as `:1:2:3:4`, the first two and
 /// the last two are positions. A URL holds no space, has at most 1,024 bytes, and begins at the start of the
 /// line, behind a byte that can't be part of a URL or path, or behind a colour sequence. Of these beginnings
-/// four count: the nearest, the nearest with a scheme, the nearest with a root, and the farthest.
+/// four count: the nearest, unless it is within a URL or a path from a root; the nearest with a scheme, the
+/// nearest with a root, and the farthest.
 ///
 /// A path from a root may hold spaces if it and its position are all that stands between ` (` and `)`.
 ///

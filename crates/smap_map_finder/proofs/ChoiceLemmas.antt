@@ -10,7 +10,7 @@ use Rattle.std.proofs.lemmas.Option.{get_or_from_slice_get, slice_get-get_or, sl
 use Rattle.smap_system.specs.Held.{Held, IsHeld}
 use Rattle.smap_map_finder.specs.Choice.{AreBest, ArePicksIn, ArePicksOf, IsFoundIn, NamesMap, files_of}
 use Rattle.smap_map_finder.specs.Choice.{FindsNone, HasNone, IsBest, IsHalfUnclear, IsTied, NamesNone}
-use Rattle.smap_map_finder.specs.Choice.{is_plain, map_files_of}
+use Rattle.smap_map_finder.specs.Choice.{is_plain, map_names_of, names_of, texts}
 use Rattle.smap_map_finder.specs.Choice.{places_of}
 use Rattle.smap_map_files.specs.Given.{Folder, IsFollowed}
 use Rattle.smap_map_files.specs.declared.following.Followed.TheVariants as followed
@@ -29,6 +29,11 @@ pub file_at : (w : Wanted) (i : ℕ) (v : Vec ℕ) → slice_get w.files.items i
     → slice_get (files_of w) i ≡ Some v.items
 file_at w i v is = slice_get-map (λ (f : Vec ℕ). f.items) w.files.items i
     ∙ ap (option_map (λ (f : Vec ℕ). f.items)) is
+
+pub slice_at : (files : List (Bor (List ℕ))) (i : ℕ) (file : Bor (List ℕ)) → slice_get files i ≡ Some file
+    → slice_get (texts files) i ≡ Some file.now
+slice_at files i file is = slice_get-map (λ (f : Bor (List ℕ)). f.now) files i
+    ∙ ap (option_map (λ (f : Bor (List ℕ)). f.now)) is
 
 -- a script whose text was followed to this file names it
 pub names_map : (held : Held) (folder : Folder) (script : MapPlace) (text : List ℕ) (place : Place)
@@ -96,15 +101,15 @@ all_of Is f xs i picks are le = let long = length-map xs f in rw (take_all i (ma
 
 -- finds that no map is asked for
 pub clear_choice : (held : Held) (w : Wanted) (names : List (List ℕ)) (picks : List Pick)
-    → ArePicksIn w (files_of w) names picks → All (λ (p : Pick). is_plain w p.found ≡ true) picks
+    → ArePicksIn w (names_of w) names picks → All (λ (p : Pick). is_plain w p.found ≡ true) picks
     → AreBest held w names picks
 clear_choice held w names picks are clear = record {
   named = are.named;
   each = λ k d lt. inl (record { is_found = are.each k d lt; is_clear = inl (clear k d lt) });
 }
 
-pub tied_choice : (w : Wanted) (name : List ℕ) (found map : Found) → IsFoundIn w (files_of w) name found
-    → IsFoundIn w (map_files_of w) name map → IsTied w name found map → IsHalfUnclear w name
+pub tied_choice : (w : Wanted) (name : List ℕ) (found map : Found) → IsFoundIn w (names_of w) name found
+    → IsFoundIn w (map_names_of w) name map → IsTied w name found map → IsHalfUnclear w name
 tied_choice w name found map all maps tied = record {
   found = found;
   is_found = all;
@@ -114,7 +119,7 @@ tied_choice w name found map all maps tied = record {
 }
 
 pub untied_choice : (held : Held) (w : Wanted) (name : List ℕ) (found map : Found)
-    → IsFoundIn w (files_of w) name found → IsFoundIn w (map_files_of w) name map
+    → IsFoundIn w (names_of w) name found → IsFoundIn w (map_names_of w) name map
     → ¬ IsTied w name found map → IsBest held w name found
 untied_choice held w name found map all maps untied = inl (record {
   is_found = all;
@@ -122,7 +127,7 @@ untied_choice held w name found map all maps untied = inl (record {
 })
 
 pub passed_choice : (held : Held) (w : Wanted) (name : List ℕ) (found map : Found)
-    → IsFoundIn w (files_of w) name found → IsFoundIn w (map_files_of w) name map → FindsNone held w found
+    → IsFoundIn w (names_of w) name found → IsFoundIn w (map_names_of w) name map → FindsNone held w found
     → IsBest held w name map
 passed_choice held w name found map all maps none =
     inr (inr (record { script = found; by_all = all; without = none; by_map = maps }))

@@ -1,17 +1,20 @@
 -- Which map a name of a log has, of those that the arguments name.
 use Rattle.std.specs.Prelude.{◌≡◌, ◌⊎◌, ◌+◌, ◌<◌, ◌≤◌, ℕ, Bool, true, false, not, ◌==◌, ◌&&◌, ◌||◌}
-use Rattle.std.specs.Prelude.{nat_eq, nat_le, nat_lt, List, [], codes, cond, drop, length, map}
+use Rattle.std.specs.Prelude.{nat_eq, nat_le, nat_lt, List, [], ◌∷◌, codes, cond, drop, length, map}
 use Rattle.std.specs.Prelude.{get_or, min, take, unwrap_or, ⊤}
 use Rattle.std.specs.Prelude.{Ok, Option, Some, None, option_and_then, option_map}
 use Rattle.std.specs.Char.{is_ascii_alphanumeric}
-use Rattle.std.specs.List.{All, list_any, prefix_len, slice_get, starts_with}
+use Rattle.std.specs.Borrow.{Bor}
+use Rattle.std.specs.List.{All, list_all, list_any, prefix_len, slice_get, starts_with}
 use Rattle.smap_system.specs.Held.{Held}
 use Rattle.smap_link.specs.Ends.{script_path, stem}
 use Rattle.smap_link.specs.Inline.{is_data}
-use Rattle.smap_link.specs.Kinds.{link_in}
+use Rattle.smap_link.specs.Kinds.{file_kind, link_in}
 use Rattle.smap_link.specs.Paths.{bare}
 use Rattle.smap_link.specs.Tails.{AgreeEqually}
-use Rattle.smap_link.specs.Urls.{is_path}
+use Rattle.smap_link.specs.Urls.{is_path, is_slash}
+use Rattle.smap_link.specs.declared.kinds.FileKind.{FileKind}
+use Rattle.smap_link.specs.declared.kinds.FileKind.TheVariants.{Map, Other, Script, StyleSheet}
 use Rattle.smap_map_choice.specs.Picks.{ArePicks, IsFound}
 use Rattle.smap_map_choice.specs.Opening.{found_place}
 use Rattle.smap_map_choice.specs.PlaceView.{places_in}
@@ -40,16 +43,6 @@ places_of w = places_in w.places.items
 abbrev pub files_of : Wanted → List (List ℕ)
 files_of w = map (λ f. f.items) w.files.items
 
--- those of the files that are maps, and the scripts behind them
-abbrev pub map_count_of : Wanted → ℕ
-map_count_of w = min w.map_count (length (files_of w))
-
-abbrev pub map_files_of : Wanted → List (List ℕ)
-map_files_of w = take (map_count_of w) (files_of w)
-
-abbrev pub script_files_of : Wanted → List (List ℕ)
-script_files_of w = drop (map_count_of w) (files_of w)
-
 abbrev pub root_at : Wanted → ℕ → Option Folder
 root_at w n = option_map folder_in (slice_get w.roots.items n)
 
@@ -75,6 +68,41 @@ has_base w (Given i) = gives_base (slice_get w.origins.items i)
 has_base w (ByEnd i) = false
 has_base w (Unclear i j) = false
 has_base w Missing = false
+
+-- ---- by which names the files are found
+
+-- the first of these numbers, if all are this one
+abbrev pub only_number : List ℕ → Option ℕ
+only_number ns = option_and_then (λ n. cond (list_all (λ m. m == n) ns) (Some n) None) (slice_get ns 0)
+
+-- the folder of all these files, if it is one
+abbrev pub only_folder : Wanted → Option Folder
+only_folder w = option_and_then (root_at w) (only_number w.file_roots.items)
+
+-- what stands behind the path of a folder and a slash in the name of a file; all of a name without these
+abbrev pub name_below : List ℕ → List ℕ → List ℕ
+name_below path file =
+    cond (starts_with nat_eq file path && starts_with nat_eq (drop (length path) file) (47 ∷ []))
+    (drop (length path + 1) file) file
+
+abbrev pub name_in : Option Folder → List ℕ → List ℕ
+name_in None file = file
+name_in (Some folder) file = name_below folder.path file
+
+-- The names of files in one folder are those below it, so that they don't depend on how it is named. The
+-- files of several are told apart by the paths of these.
+abbrev pub names_of : Wanted → List (List ℕ)
+names_of w = map (λ f. name_in (only_folder w) f.items) w.files.items
+
+-- how many of them are those of maps, behind which those of scripts stand
+abbrev pub map_count_of : Wanted → ℕ
+map_count_of w = min w.map_count (length (names_of w))
+
+abbrev pub map_names_of : Wanted → List (List ℕ)
+map_names_of w = take (map_count_of w) (names_of w)
+
+abbrev pub script_names_of : Wanted → List (List ℕ)
+script_names_of w = drop (map_count_of w) (names_of w)
 
 -- ---- what a name has
 
@@ -142,13 +170,10 @@ AreLinks held w kept = All (λ e. IsNamed held w e.0 e.1) kept
 pub record IsThrough (held : Held) (w : Wanted) (name : List ℕ) (found : Found) : Type 0 where
   pub script : ℕ
   pub file : ℕ
-  pub by_script : IsFoundIn w (script_files_of w) name (ByEnd script)
-  pub by_map : IsFoundIn w (map_files_of w) name (ByEnd file)
+  pub by_script : IsFoundIn w (script_names_of w) name (ByEnd script)
+  pub by_map : IsFoundIn w (map_names_of w) name (ByEnd file)
   pub found_is : found ≡ ByEnd (map_count_of w + script)
   pub links : Links held w (map_count_of w + script) file
-
-abbrev pub file_at : Wanted → ℕ → List ℕ
-file_at w i = unwrap_or (slice_get (files_of w) i) []
 
 -- No script is found, and no two files of which one is a map.
 abbrev pub is_plain : Wanted → Found → Bool
@@ -157,47 +182,54 @@ is_plain w (ByEnd i) = nat_lt i (map_count_of w)
 is_plain w (Unclear i j) = nat_le (map_count_of w) (min i j)
 is_plain w Missing = true
 
--- The files with these numbers agree with the name in equally many bytes.
-abbrev pub Agree : Wanted → List ℕ → ℕ → ℕ → Type 0
-Agree w name i j = AgreeEqually (script_path name) (stem (file_at w i)) (stem (file_at w j))
+-- the texts of slices
+abbrev pub texts : List (Bor (List ℕ)) → List (List ℕ)
+texts slices = map (λ s. s.now) slices
+
+abbrev pub name_at : List (List ℕ) → ℕ → List ℕ
+name_at files i = unwrap_or (slice_get files i) []
+
+-- Of these names of files those with these numbers agree with the name in equally many bytes.
+abbrev pub Agree : List (List ℕ) → List ℕ → ℕ → ℕ → Type 0
+Agree files name i j = AgreeEqually (script_path name) (stem (name_at files i)) (stem (name_at files j))
 
 -- The map that is found agrees with the name in as many bytes as this script.
-abbrev pub IsMapAsLong : Wanted → List ℕ → ℕ → Found → Type 0
-IsMapAsLong w name script (Given i) = ⊥
-IsMapAsLong w name script (ByEnd i) = Agree w name script i
-IsMapAsLong w name script (Unclear i j) = Agree w name script i
-IsMapAsLong w name script Missing = ⊥
+abbrev pub IsMapAsLong : List (List ℕ) → List ℕ → ℕ → Found → Type 0
+IsMapAsLong files name script (Given i) = ⊥
+IsMapAsLong files name script (ByEnd i) = Agree files name script i
+IsMapAsLong files name script (Unclear i j) = Agree files name script i
+IsMapAsLong files name script Missing = ⊥
 
 -- Two files are found of which one is a map; or a script is, and of the maps one that agrees in as many
 -- bytes.
 abbrev pub IsTied : Wanted → List ℕ → Found → Found → Type 0
 IsTied w name (Given i) map = ⊥
-IsTied w name (ByEnd i) map = (map_count_of w ≤ i) × IsMapAsLong w name i map
+IsTied w name (ByEnd i) map = (map_count_of w ≤ i) × IsMapAsLong (names_of w) name i map
 IsTied w name (Unclear i j) map = min i j < map_count_of w
 IsTied w name Missing map = ⊥
 
 -- A map ends alike with the name, and another file does.
 pub record IsHalfUnclear (w : Wanted) (name : List ℕ) : Type 0 where
   pub found : Found
-  pub is_found : IsFoundIn w (files_of w) name found
+  pub is_found : IsFoundIn w (names_of w) name found
   pub map : Found
-  pub is_map : IsFoundIn w (map_files_of w) name map
+  pub is_map : IsFoundIn w (map_names_of w) name map
   pub is_tied : IsTied w name found map
 
 -- Then the map is meant, or the script that names it.
 pub record IsSettled (held : Held) (w : Wanted) (name : List ℕ) (found : Found) : Type 0 where
   pub unclear : IsHalfUnclear w name
-  pub settled : IsFoundIn w (map_files_of w) name found ⊎ IsThrough held w name found
+  pub settled : IsFoundIn w (map_names_of w) name found ⊎ IsThrough held w name found
 
 -- What is found among the maps isn't tied with this.
 pub record IsUntied (w : Wanted) (name : List ℕ) (found : Found) : Type 0 where
   pub map : Found
-  pub is_map : IsFoundIn w (map_files_of w) name map
+  pub is_map : IsFoundIn w (map_names_of w) name map
   pub is_untied : ¬ IsTied w name found map
 
 -- What is found for the name, where it isn't so.
 pub record IsClear (w : Wanted) (name : List ℕ) (found : Found) : Type 0 where
-  pub is_found : IsFoundIn w (files_of w) name found
+  pub is_found : IsFoundIn w (names_of w) name found
   pub is_clear : (is_plain w found ≡ true) ⊎ IsUntied w name found
 
 -- What is found is a script that has no map.
@@ -210,9 +242,9 @@ FindsNone held w Missing = ⊥
 -- Then what is found among the maps counts.
 pub record IsPassedOver (held : Held) (w : Wanted) (name : List ℕ) (found : Found) : Type 0 where
   pub script : Found
-  pub by_all : IsFoundIn w (files_of w) name script
+  pub by_all : IsFoundIn w (names_of w) name script
   pub without : FindsNone held w script
-  pub by_map : IsFoundIn w (map_files_of w) name found
+  pub by_map : IsFoundIn w (map_names_of w) name found
 
 -- What is found for a name by the ends of the files' names, and by what scripts name.
 abbrev pub IsBest : Held → Wanted → List ℕ → Found → Type 0
@@ -281,7 +313,7 @@ AreCompared held w kept = All (λ c. c.are_copies ≡ true → AreCopies held w 
 
 -- The files among which one with this number is looked for: the maps, or for a script all.
 abbrev pub rivals : Wanted → ℕ → List (List ℕ)
-rivals w file = cond (nat_lt file (map_count_of w)) (map_files_of w) (files_of w)
+rivals w file = cond (nat_lt file (map_count_of w)) (map_names_of w) (names_of w)
 
 -- Two texts, read with this URL of their own, are maps with equal records: their canonical bytes are equal.
 pub record IsOneMap (how : Reading) (url first second : List ℕ) : Type 0 where
@@ -364,10 +396,26 @@ AreChoices held w names picks = ArePicksOf (IsChoiceOf held w) names picks
 
 -- ---- the map of what a name has
 
--- A name may belong to a file by its end: a URL that names a place, a path; of a frame also a name without a
--- colon, since `node:internal/x.js` names none.
+-- the kind of a script
+abbrev pub is_script : FileKind → Bool
+is_script Script = true
+is_script StyleSheet = false
+is_script Map = false
+is_script Other = false
+
+-- the file name of a script, with nothing before it
+abbrev pub is_bare_script : List ℕ → Bool
+is_bare_script name = is_script (file_kind (bare name)) && not (list_any is_slash (bare name))
+
+-- a name without a colon: `node:internal/x.js` names no file
+abbrev pub has_no_colon : List ℕ → Bool
+has_no_colon name = not (list_any (λ b. nat_eq b 58) name)
+
+-- A name may belong to a file by its end: a URL that names a place, a path, the bare name of a script; and of
+-- a frame any other name.
 abbrev pub may_end_alike : List ℕ → Bool → Bool
-may_end_alike name in_frames = is_absolute name || (in_frames && not (list_any (λ b. nat_eq b 58) name))
+may_end_alike name in_frames =
+    is_absolute name || ((in_frames || is_bare_script name) && has_no_colon name)
 
 -- Found, but not by its end for a name that may not belong to a file by it.
 abbrev pub within_ends : List ℕ → Bool → Found → Found

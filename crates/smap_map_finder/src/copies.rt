@@ -9,7 +9,7 @@ ghost use Rattle.smap_map_finder.specs.Choice as spec;
 ghost use Rattle.smap_map_finder.specs.Choice.{AreChoices, AreCompared, AreCopies, AreOne, ArePicksIn};
 ghost use Rattle.smap_map_finder.specs.Choice.{HoldSame};
 ghost use Rattle.smap_map_finder.specs.Choice.{HoldsMap, IsAmongCopies, IsBestOf, IsChoiceOf, IsFoundIn};
-ghost use Rattle.smap_map_finder.specs.Choice.{files_of, places_of};
+ghost use Rattle.smap_map_finder.specs.Choice.{names_of, places_of};
 ghost use Rattle.smap_map_finder.specs.ChosenView.{IsOver};
 ghost use Rattle.smap_map_finder.specs.Searching.{held_in, wanted_in};
 ghost use Rattle.smap_map_files.specs.declared.wanted.Wanted.{Wanted};
@@ -94,7 +94,7 @@ fn other_than(found: Option<Found>, file: usize) -> Option<usize> {
 
 /// The files among which one is looked for: the maps, or for a script all.
 fn rivals<'s, 'f>(wanted: &Wanted<'_>, files: &'s [&'f [u8]], file: usize) -> &'s [&'f [u8]]
-    requires { map (λ f. f.now) files.now ≡ files_of wanted.now }
+    requires { map (λ f. f.now) files.now ≡ names_of wanted.now }
     ensures { map (λ f. f.now) result.now ≡ spec.rivals wanted.now file }
 {
     if file < map_count(wanted) {
@@ -258,7 +258,7 @@ impl<E: Eprint + AllocGlobal, D: Disk> Search<'_, E, D> {
         pick: Pick<'n>,
     ) -> Result<Pick<'n>, Stop>
         requires over { IsOver D.held (held_in D.held self.now) (wanted_in self.now) opener.old }
-        requires files { map (λ f. f.now) files.now ≡ files_of (wanted_in self.now) }
+        requires files { map (λ f. f.now) files.now ≡ names_of (wanted_in self.now) }
         requires best { IsBestOf (held_in D.held self.now) (wanted_in self.now) pick }
         ensures name { IfOk result (λ p. p.name.now ≡ pick.entry.name.now) }
         ensures choice { IfOk result (IsChoiceOf (held_in D.held self.now) (wanted_in self.now)) }
@@ -285,7 +285,7 @@ impl<E: Eprint + AllocGlobal, D: Disk> Search<'_, E, D> {
         picks: &[Pick<'n>],
     ) -> Result<Vec<Pick<'n>>, Stop>
         requires over { IsOver D.held (held_in D.held self.now) (wanted_in self.now) opener.old }
-        requires files { map (λ f. f.now) files.now ≡ files_of (wanted_in self.now) }
+        requires files { map (λ f. f.now) files.now ≡ names_of (wanted_in self.now) }
         requires best { All (IsBestOf (held_in D.held self.now) (wanted_in self.now)) picks.now }
         ensures choices { IfOk result (λ all. AreChoices (held_in D.held self.now) (wanted_in self.now)
             (map (λ p. p.name.now) picks.now) all.items) }

@@ -1,11 +1,13 @@
 //! Which file each name of a log has.
 ghost use Rattle.std.specs.Prelude.{◌≡◌, ◌↔◌, IfOk, IsTrue, List, map, option_map, true, ℕ};
-ghost use Rattle.std.specs.List.{All};
+ghost use Rattle.std.specs.List.{All, list_any};
+ghost use Rattle.smap_link.specs.Kinds.{file_kind as kind_of};
+ghost use Rattle.smap_link.specs.Urls.{is_slash};
 ghost use Rattle.smap_map_finder.specs.Choice as spec;
 ghost use Rattle.smap_map_finder.specs.Choice.{AreBest, AreLinks, ArePicked, ArePicksIn, IsBest};
 ghost use Rattle.smap_map_finder.specs.Choice.{IsChoiceOf};
 ghost use Rattle.smap_map_finder.specs.Choice.{IsFoundIn};
-ghost use Rattle.smap_map_finder.specs.Choice.{IsHalfUnclear, files_of, places_of};
+ghost use Rattle.smap_map_finder.specs.Choice.{IsHalfUnclear, names_of, places_of};
 ghost use Rattle.smap_map_files.specs.declared.wanted.Wanted.{Wanted};
 ghost use Rattle.smap_system.specs.Held.{Held};
 ghost use Rattle.smap_map_finder.specs.ChosenView.{IsOver};
@@ -13,8 +15,8 @@ ghost use Rattle.smap_map_finder.specs.Searching.{held_in, wanted_in};
 
 use crate::links::Links;
 use crate::opening::{Opener, Search};
-use crate::roots::slices;
-use smap_link::{ScriptTable, agree_equally, bare, is_path};
+use crate::roots::names_of;
+use smap_link::{FileKind, ScriptTable, agree_equally, bare, file_kind, is_path};
 use smap_map_choice::{Found, Pick, pick_all};
 use smap_map_files::{Wanted, name_of_file};
 use smap_system::{Disk, Host, Stop};
@@ -87,12 +89,32 @@ fn own_name(alloc: Global, name: &[u8], file: Option<&Vec<u8>>) -> Result<Vec<u8
     }
 }
 
+fn is_script(file: &[u8]) -> bool
+    ensures { result ≡ spec.is_script (kind_of file.now) }
+{
+    matches!(file_kind(file), FileKind::Script)
+}
+
+fn has_slash(name: &[u8]) -> bool
+    ensures { result ≡ list_any is_slash name.now }
+{
+    name.iter().any(|b| *b == b'/' || *b == b'\\')
+}
+
+/// Whether a name is the file name of a script, with nothing before it.
+fn is_bare_script(name: &[u8]) -> bool
+    ensures { result ≡ spec.is_bare_script name.now }
+{
+    let file = bare(name);
+    is_script(file) && !has_slash(file)
+}
+
 /// Whether a name may belong to a file by its end. `node:internal/x.js` names none. Of a name that is neither
-/// a URL nor a path only a frame shows where it begins.
+/// a URL nor a path only a frame shows where it begins, unless it is the bare name of a script.
 fn may_end_alike(name: &[u8], in_frames: bool) -> bool
     ensures { result ≡ spec.may_end_alike name.now in_frames }
 {
-    is_absolute(name) || in_frames && !name.contains(&b':')
+    is_absolute(name) || (in_frames || is_bare_script(name)) && !name.contains(&b':')
 }
 
 /// What was found for a name, but none by its end for a name that may not belong to a file by it.
@@ -143,12 +165,12 @@ struct Finds {
     of_maps: Found,
 }
 
-/// The file with this number; an empty name where there is none.
-fn file_at<'a>(wanted: &'a Wanted<'_>, number: usize) -> &'a [u8]
-    ensures { result.now ≡ spec.file_at wanted.now number }
+/// The file with this number among these names; an empty name where there is none.
+fn name_at<'a>(files: &[&'a [u8]], number: usize) -> &'a [u8]
+    ensures { result.now ≡ spec.name_at (spec.texts files.now) number }
 {
-    match wanted.files.get(number) {
-        Some(file) => file.as_slice(),
+    match files.get(number) {
+        Some(file) => *file,
         None => b"",
     }
 }
@@ -156,31 +178,33 @@ fn file_at<'a>(wanted: &'a Wanted<'_>, number: usize) -> &'a [u8]
 /// Whether the files with these numbers agree with a name in equally many bytes.
 fn agree(
     alloc: Global,
-    wanted: &Wanted<'_>,
+    files: &[&[u8]],
     name: &[u8],
     script: usize,
     map: usize,
 ) -> Result<bool, AllocError>
-    ensures { IfOk result (λ same. IsTrue same ↔ spec.Agree wanted.now name.now script map) }
+    ensures { IfOk result
+        (λ same. IsTrue same ↔ spec.Agree (spec.texts files.now) name.now script map) }
 {
-    let of_script = file_at(wanted, script);
-    let of_map = file_at(wanted, map);
+    let of_script = name_at(files, script);
+    let of_map = name_at(files, map);
     agree_equally(alloc, name, of_script, of_map)
 }
 
 /// Whether the map that is found agrees with a name in as many bytes as this script.
 fn is_map_as_long(
     alloc: Global,
-    wanted: &Wanted<'_>,
+    files: &[&[u8]],
     name: &[u8],
     script: usize,
     map: Found,
 ) -> Result<bool, AllocError>
-    ensures { IfOk result (λ same. IsTrue same ↔ spec.IsMapAsLong wanted.now name.now script map) }
+    ensures { IfOk result
+        (λ same. IsTrue same ↔ spec.IsMapAsLong (spec.texts files.now) name.now script map) }
 {
     match map {
-        Found::ByEnd(i) => agree(alloc, wanted, name, script, i),
-        Found::Unclear(i, _) => agree(alloc, wanted, name, script, i),
+        Found::ByEnd(i) => agree(alloc, files, name, script, i),
+        Found::Unclear(i, _) => agree(alloc, files, name, script, i),
         Found::Given(_) | Found::Missing => Ok(false),
     }
 }
@@ -190,9 +214,11 @@ fn is_map_as_long(
 fn is_tied(
     alloc: Global,
     wanted: &Wanted<'_>,
+    files: &[&[u8]],
     name: &[u8],
     finds: Finds,
 ) -> Result<bool, AllocError>
+    requires { spec.texts files.now ≡ names_of wanted.now }
     ensures { IfOk result
         (λ tied. IsTrue tied ↔ spec.IsTied wanted.now name.now finds.of_all finds.of_maps) }
 {
@@ -201,7 +227,7 @@ fn is_tied(
             if i < map_count(wanted) {
                 return Ok(false);
             }
-            let same = is_map_as_long(alloc, wanted, name, i, finds.of_maps)?;
+            let same = is_map_as_long(alloc, files, name, i, finds.of_maps)?;
             Ok(same)
         }
         Found::Unclear(i, j) => Ok(i.min(j) < map_count(wanted)),
@@ -246,9 +272,9 @@ impl<E: Eprint + AllocGlobal, D: Disk> Search<'_, E, D> {
     ) -> Result<Found, Stop>
         requires links { AreLinks (held_in D.held self.now) (wanted_in self.now) links.old.named.entries }
         requires unclear { IsHalfUnclear (wanted_in self.now) name.now }
-        requires script { IsFoundIn (wanted_in self.now) (spec.script_files_of (wanted_in self.now))
+        requires script { IsFoundIn (wanted_in self.now) (spec.script_names_of (wanted_in self.now))
             name.now script }
-        requires map { IsFoundIn (wanted_in self.now) (spec.map_files_of (wanted_in self.now)) name.now map }
+        requires map { IsFoundIn (wanted_in self.now) (spec.map_names_of (wanted_in self.now)) name.now map }
         ensures choice { IfOk result (IsBest (held_in D.held self.now) (wanted_in self.now) name.now) }
         ensures links { AreLinks (held_in D.held self.now) (wanted_in self.now) links.new.named.entries }
     {
@@ -279,18 +305,25 @@ impl<E: Eprint + AllocGlobal, D: Disk> Search<'_, E, D> {
     }
 
     /// What is found for a name, of which this is found among the files.
-    fn settled_found(&self, name: &[u8], finds: Finds, links: &mut Links) -> Result<Found, Stop>
+    fn settled_found(
+        &self,
+        files: &[&[u8]],
+        name: &[u8],
+        finds: Finds,
+        links: &mut Links,
+    ) -> Result<Found, Stop>
+        requires files { map (λ f. f.now) files.now ≡ names_of (wanted_in self.now) }
         requires links { AreLinks (held_in D.held self.now) (wanted_in self.now) links.old.named.entries }
-        requires found { IsFoundIn (wanted_in self.now) (files_of (wanted_in self.now)) name.now
+        requires found { IsFoundIn (wanted_in self.now) (names_of (wanted_in self.now)) name.now
             finds.of_all }
-        requires script { IsFoundIn (wanted_in self.now) (spec.script_files_of (wanted_in self.now)) name.now
+        requires script { IsFoundIn (wanted_in self.now) (spec.script_names_of (wanted_in self.now)) name.now
             finds.of_scripts }
-        requires map { IsFoundIn (wanted_in self.now) (spec.map_files_of (wanted_in self.now)) name.now
+        requires map { IsFoundIn (wanted_in self.now) (spec.map_names_of (wanted_in self.now)) name.now
             finds.of_maps }
         ensures choice { IfOk result (IsBest (held_in D.held self.now) (wanted_in self.now) name.now) }
         ensures links { AreLinks (held_in D.held self.now) (wanted_in self.now) links.new.named.entries }
     {
-        let tied = is_tied(self.host.alloc(), self.wanted, name, finds)?;
+        let tied = is_tied(self.host.alloc(), self.wanted, files, name, finds)?;
         if tied {
             return self.script_or_map(name, finds.of_scripts, finds.of_maps, links);
         }
@@ -303,16 +336,18 @@ impl<E: Eprint + AllocGlobal, D: Disk> Search<'_, E, D> {
     /// The same of each name.
     fn settle_each<'n>(
         &self,
+        files: &[&[u8]],
         names: &[&'n [u8]],
         picks: &PicksByKind<'_, 'n>,
         links: &mut Links,
     ) -> Result<Vec<Pick<'n>>, Stop>
         requires links { AreLinks (held_in D.held self.now) (wanted_in self.now) links.old.named.entries }
-        requires picks { ArePicksIn (wanted_in self.now) (files_of (wanted_in self.now)) (map (λ n. n.now)
+        requires files { map (λ f. f.now) files.now ≡ names_of (wanted_in self.now) }
+        requires picks { ArePicksIn (wanted_in self.now) (names_of (wanted_in self.now)) (map (λ n. n.now)
             names.now) picks.now.all.now }
-        requires scripts { ArePicksIn (wanted_in self.now) (spec.script_files_of (wanted_in self.now)) (map
+        requires scripts { ArePicksIn (wanted_in self.now) (spec.script_names_of (wanted_in self.now)) (map
             (λ n. n.now) names.now) picks.now.scripts.now }
-        requires maps { ArePicksIn (wanted_in self.now) (spec.map_files_of (wanted_in self.now))
+        requires maps { ArePicksIn (wanted_in self.now) (spec.map_names_of (wanted_in self.now))
             (map (λ n. n.now) names.now) picks.now.maps.now }
         ensures choices { IfOk result (λ all. AreBest (held_in D.held self.now) (wanted_in self.now)
             (map (λ n. n.now) names.now) all.items) }
@@ -326,7 +361,7 @@ impl<E: Eprint + AllocGlobal, D: Disk> Search<'_, E, D> {
                 of_scripts: picks.scripts[i].found,
                 of_maps: picks.maps[i].found,
             };
-            let found = self.settled_found(name, finds, links)?;
+            let found = self.settled_found(files, name, finds, links)?;
             settled.push(Pick { name, found })?;
         }
         Ok(settled)
@@ -342,8 +377,8 @@ impl<E: Eprint + AllocGlobal, D: Disk> Search<'_, E, D> {
         picks: Vec<Pick<'n>>,
     ) -> Result<Vec<Pick<'n>>, Stop>
         requires over { IsOver D.held (held_in D.held self.now) (wanted_in self.now) opener.old }
-        requires files { map (λ f. f.now) files.now ≡ files_of (wanted_in self.now) }
-        requires picks { ArePicksIn (wanted_in self.now) (files_of (wanted_in self.now)) (map (λ n. n.now)
+        requires files { map (λ f. f.now) files.now ≡ names_of (wanted_in self.now) }
+        requires picks { ArePicksIn (wanted_in self.now) (names_of (wanted_in self.now)) (map (λ n. n.now)
             names.now) picks.items }
         ensures picked { IfOk result (λ all. AreBest (held_in D.held self.now) (wanted_in self.now)
             (map (λ n. n.now) names.now) all.items) }
@@ -361,7 +396,7 @@ impl<E: Eprint + AllocGlobal, D: Disk> Search<'_, E, D> {
             scripts: by_script.as_slice(),
             maps: by_map.as_slice(),
         };
-        self.settle_each(names, &picks, &mut opener.links)
+        self.settle_each(files, names, &picks, &mut opener.links)
     }
 
     /// What each name has.
@@ -377,7 +412,7 @@ impl<E: Eprint + AllocGlobal, D: Disk> Search<'_, E, D> {
         ensures over { IsOver D.held (held_in D.held self.now) (wanted_in self.now) opener.new }
     {
         let alloc = self.host.alloc();
-        let files = slices(alloc, self.wanted.files.as_slice())?;
+        let files = names_of(alloc, self.wanted)?;
         let picks = pick_all(alloc, &mut opener.table, &files, true, names)?;
         let picks = self.settled(opener, &files, names, picks)?;
         let picks = self.choose_all(opener, &files, &picks)?;

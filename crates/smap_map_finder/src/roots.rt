@@ -1,5 +1,6 @@
-//! The folders in which the maps of picks stand.
-ghost use Rattle.std.specs.Prelude.{◌≡◌, IfOk, map};
+//! The folders in which the maps of picks stand, and the names of files below them.
+ghost use Rattle.std.specs.Prelude.{◌≡◌, ◌==◌, IfOk, None, Some, cond, map};
+ghost use Rattle.std.specs.List.{list_all};
 ghost use Rattle.smap_map_finder.specs.Choice as spec;
 ghost use Rattle.smap_map_files.specs.RootView.{folder_of};
 
@@ -44,13 +45,81 @@ pub(crate) fn has_base(wanted: &Wanted<'_>, found: Found) -> bool
     }
 }
 
-/// The texts as slices.
-pub(crate) fn slices(alloc: Global, texts: &[Vec<u8>]) -> Result<Vec<&[u8]>, AllocError>
-    ensures { IfOk result (λ all. map (λ s. s.now) all.items ≡ map (λ t. t.items) texts.now) }
+/// Whether all these numbers are this one.
+fn are_all(numbers: &[usize], number: usize) -> bool
+    ensures { result ≡ list_all (λ n. n == number) numbers.now }
 {
-    let mut slices = Vec::with_capacity(alloc, texts.len())?;
-    for text in texts {
-        slices.push(text.as_slice())?;
+    numbers.iter().all(|n| *n == number)
+}
+
+fn number_if(is_it: bool, number: usize) -> Option<usize>
+    ensures { result ≡ cond is_it (Some number) None }
+{
+    if is_it { Some(number) } else { None }
+}
+
+/// The first of these numbers, if all are this one.
+fn only_number(numbers: &[usize]) -> Option<usize>
+    ensures { result ≡ spec.only_number numbers.now }
+{
+    match numbers.first() {
+        Some(number) => number_if(are_all(numbers, *number), *number),
+        None => None,
     }
-    Ok(slices)
+}
+
+/// The folder of all files that go by the ends of their names, if it is one.
+fn only_folder<'a>(wanted: &'a Wanted<'_>) -> Option<&'a Root>
+    ensures { folder_of result ≡ spec.only_folder wanted.now }
+{
+    match only_number(&wanted.file_roots) {
+        Some(number) => root_at(wanted, number),
+        None => None,
+    }
+}
+
+/// What stands behind the path of a folder and a slash in the name of a file; all of a name without these.
+fn name_below<'a>(path: &[u8], file: &'a [u8]) -> &'a [u8]
+    ensures { result.now ≡ spec.name_below path.now file.now }
+{
+    if file.starts_with(path) && file[path.len()..].starts_with(b"/") {
+        &file[path.len() + 1..]
+    } else {
+        file
+    }
+}
+
+fn name_in<'a>(folder: Option<&Root>, file: &'a [u8]) -> &'a [u8]
+    ensures { result.now ≡ spec.name_in (folder_of folder.entry) file.now }
+{
+    match folder {
+        Some(root) => name_below(root.path.as_bytes(), file),
+        None => file,
+    }
+}
+
+fn names_in<'a>(
+    alloc: Global,
+    folder: Option<&Root>,
+    files: &'a [Vec<u8>],
+) -> Result<Vec<&'a [u8]>, AllocError>
+    ensures { IfOk result (λ all. map (λ s. s.now) all.items
+        ≡ map (λ f. spec.name_in (folder_of folder.entry) f.items) files.now) }
+{
+    let mut names = Vec::with_capacity(alloc, files.len())?;
+    for file in files {
+        names.push(name_in(folder, file.as_slice()))?;
+    }
+    Ok(names)
+}
+
+/// The names by which the files are found that go by the ends of their names: below their folder, if it is
+/// one.
+pub(crate) fn names_of<'a>(
+    alloc: Global,
+    wanted: &'a Wanted<'_>,
+) -> Result<Vec<&'a [u8]>, AllocError>
+    ensures { IfOk result (λ all. map (λ s. s.now) all.items ≡ spec.names_of wanted.now) }
+{
+    names_in(alloc, only_folder(wanted), &wanted.files)
 }

@@ -55,7 +55,9 @@ impl<'a, E: Eprint + AllocGlobal, D: Disk> Search<'a, E, D> {
     {
         let (host, wanted) = (self.host, self.wanted);
         let mut opener = Opener::new(host.alloc(), host.disk, wanted)?;
-        let picks = self.picks_of(&mut opener, in_frames, names)?;
+        let picks = self.picks_of(&mut opener, in_frames, names);
+        drop(opener);
+        let picks = picks?;
         let files = files_of(host.alloc(), wanted, &picks)?;
         Ok(files)
     }

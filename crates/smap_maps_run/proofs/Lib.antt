@@ -1,2 +1,4 @@
 mod JoiningLemmas
+mod LookingLemmas
+mod RunLemmas
 mod WholeLemmas

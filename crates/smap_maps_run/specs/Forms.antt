@@ -3,7 +3,6 @@ use Rattle.std.specs.Prelude.{◌≡◌, ℕ, List, Option, Some, Ok, option_map
 use Rattle.url.specs.Parts.{Parts}
 use Rattle.smap_record.specs.Faults.{Checked, ◌>>=◌}
 use Rattle.smap_record.specs.Fitting.{Fits, ListingFits}
-use Rattle.smap_record.specs.Reading.{reading}
 use Rattle.smap_record.specs.Record.{Allowed, ReadMap, record_of}
 use Rattle.smap_record.specs.UrlBytes.{reading_within}
 use Rattle.smap_canon.specs.Canonical.{canonical_text_in}

@@ -2,5 +2,8 @@ pub mod Deciding
 pub mod Forms
 pub mod JsonLines
 pub mod Judging
+pub mod Looking
 pub mod Outcomes
 pub mod Remarks
+pub mod Runs
+pub mod Targets

@@ -1,13 +1,12 @@
 //! The bytes that a map would be rewritten to.
 ghost use Rattle.std.specs.Prelude.{◌≡◌, IfOk, IfSome, OnOk, option_map};
-ghost use Rattle.smap_record.specs.Fitting.{Fits, ListingFits};
-ghost use Rattle.smap_record.specs.Record.{record_of, usual};
+ghost use Rattle.smap_record.specs.Record.{usual};
 ghost use Rattle.smap_record.specs.Results.{Returns};
-ghost use Rattle.smap_record.specs.UrlBytes.{reading_within};
 ghost use Rattle.smap_maps_run.specs.Forms.{IsReadAgainAs, KeepsRecord, formed_text, written_text};
 
+use crate::judging::map_of;
 use smap_canon::{canonical_in, flatten};
-use smap_record::{Base, Limits, ReadError, SourceMap};
+use smap_record::{Base, ReadError, SourceMap};
 use std::alloc::{AllocError, Global};
 
 /// The form that a map is compared with.
@@ -31,23 +30,6 @@ fn written(alloc: Global, form: Form, base: &Base, map: &SourceMap) -> Result<Ve
     match text {
         Ok(text) => Ok(text),
         Err(_) => Err(AllocError),
-    }
-}
-
-/// The map that a text is; none if the URLs of its sources take more than so many bytes.
-fn map_of(
-    alloc: Global,
-    base: &Base,
-    bytes: &[u8],
-    url_bytes: usize,
-) -> Result<Option<SourceMap>, ReadError>
-    ensures reads { Returns (λ o. o) result (reading_within base.now usual url_bytes bytes.now) }
-    ensures fits { IfOk result (λ o. IfSome o (λ m. Fits base.now usual (record_of m))) }
-    ensures listing_fits { IfOk result (λ o. IfSome o (λ m. ListingFits base.now usual m.listing)) }
-{
-    match SourceMap::from_slice_within(alloc, bytes, base, Limits::usual(), url_bytes)? {
-        Some((map, _)) => Ok(Some(map)),
-        None => Ok(None),
     }
 }
 

@@ -1,5 +1,7 @@
 //! What a map is that is checked.
-ghost use Rattle.smap_record.specs.Record.{usual};
+ghost use Rattle.std.specs.Prelude.{IfOk, IfSome};
+ghost use Rattle.smap_record.specs.Fitting.{Fits, ListingFits};
+ghost use Rattle.smap_record.specs.Record.{record_of, usual};
 ghost use Rattle.smap_record.specs.Results.{Returns};
 ghost use Rattle.smap_record.specs.UrlBytes.{reading_within};
 ghost use Rattle.smap_maps_run.specs.Judging.{IsJudged};
@@ -10,14 +12,16 @@ use smap_map_files::MapText;
 use smap_record::{Base, Limits, ReadError, SourceMap};
 use std::alloc::Global;
 
-/// The map that these bytes are; none where the URLs of its sources take more bytes.
-fn map_of(
+/// The map that a text is; none if the URLs of its sources take more than so many bytes.
+pub(crate) fn map_of(
     alloc: Global,
     base: &Base,
     bytes: &[u8],
     url_bytes: usize,
 ) -> Result<Option<SourceMap>, ReadError>
-    ensures { Returns (λ o. o) result (reading_within base.now usual url_bytes bytes.now) }
+    ensures reads { Returns (λ o. o) result (reading_within base.now usual url_bytes bytes.now) }
+    ensures fits { IfOk result (λ o. IfSome o (λ m. Fits base.now usual (record_of m))) }
+    ensures listing_fits { IfOk result (λ o. IfSome o (λ m. ListingFits base.now usual m.listing)) }
 {
     match SourceMap::from_slice_within(alloc, bytes, base, Limits::usual(), url_bytes)? {
         Some((map, _)) => Ok(Some(map)),

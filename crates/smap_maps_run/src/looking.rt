@@ -1,13 +1,24 @@
-//! One map: read, checked, and rewritten if it would change.
+//! One map: its file is read, and what becomes of it is found.
+ghost use Rattle.std.specs.Prelude.{◌≡◌, ◌++◌, [], IfOk, MatchResult, None, Ok, OnOk};
+ghost use Rattle.std.specs.Prelude.{map, string_bytes};
+ghost use Rattle.url.specs.Parser.{parse_url};
+ghost use Rattle.serde_json.specs.View.{view};
+ghost use Rattle.smap_record.specs.Reading.{map_tree};
+ghost use Rattle.smap_system.specs.Held.{IsHeld};
+ghost use Rattle.smap_maps_run.specs.Judging.{IsJudged};
+ghost use Rattle.smap_maps_run.specs.Looking.{IsCompared, IsDone, IsDue, IsFileOf, IsOtherForm};
+ghost use Rattle.smap_maps_run.specs.Looking.{IsUnchangedAs};
+ghost use Rattle.smap_maps_run.specs.Looking.{IsOutcome, IsOutcomeOf, IsUnlooked, drops_of, drops_of_tree};
 
-use crate::deciding::{Deed, decided};
+use crate::deciding::{Deed, Work, decided};
 use crate::forms::{Form, formed};
+use crate::repairing::repaired;
 use crate::replacing::replace;
 use crate::targets::Target;
 use crate::{Failure, Outcome, Verdict, judged, unread};
 use serde_json::Value;
 use smap_command_line::maps::Rewrite;
-use smap_differences::{Drops, changes, dropped};
+use smap_differences::{changes, dropped};
 use smap_map_files::MapText;
 use smap_record::{Base, BaseFault, map_tree};
 use smap_system::{Disk, FileFault, LIMIT, Stamp, read_file};
@@ -19,22 +30,26 @@ pub(crate) struct Case<'a, D> {
     pub(crate) alloc: Global,
     pub(crate) disk: &'a D,
     pub(crate) target: &'a Target,
+    pub(crate) work: Work,
     /// How many bytes the URLs of its sources may take.
     pub(crate) url_bytes: usize,
 }
 
-/// What a file holds, to be read as a map.
-pub(crate) fn map_text<'a>(base: &'a Base, bytes: &'a [u8], url_bytes: usize) -> MapText<'a> {
-    MapText {
-        bytes,
-        base,
-        url_bytes,
-        is_file: true,
-    }
+/// The file of a map.
+#[derive(Drop)]
+pub(crate) struct MapFile {
+    /// What it was before its bytes were read.
+    pub(crate) stamp: Stamp,
+    pub(crate) bytes: Vec<u8>,
+    /// The map's own URL.
+    pub(crate) base: Base,
 }
 
 /// What an outcome is without a rewrite.
-pub(crate) fn plain(alloc: Global, verdict: Verdict) -> Outcome {
+pub(crate) fn plain(alloc: Global, verdict: Verdict) -> Outcome
+    ensures verdict { result.verdict ≡ verdict }
+    ensures drops { result.drops.items ≡ [] }
+{
     Outcome {
         verdict,
         drops: Vec::new(alloc),
@@ -43,30 +58,41 @@ pub(crate) fn plain(alloc: Global, verdict: Verdict) -> Outcome {
 }
 
 /// The tree of a map that is accepted.
-fn tree(alloc: Global, bytes: &[u8]) -> Result<Value, AllocError> {
+fn tree(alloc: Global, bytes: &[u8]) -> Result<Value, AllocError>
+    ensures { IfOk result (λ t. map_tree bytes.now ≡ Ok (view t)) }
+{
     match map_tree(alloc, bytes) {
         Ok(tree) => Ok(tree),
         Err(_) => Err(AllocError),
     }
 }
 
-/// The names of what is dropped.
-fn names_of(alloc: Global, drops: &Drops<'_>) -> Result<Vec<String>, AllocError> {
-    let mut names = Vec::new(alloc);
-    for name in &drops.own {
-        names.push(String::from_str(alloc, *name)?)?;
-    }
-    for name in &drops.in_sections {
+/// Adds names, each behind this text.
+fn add_names(
+    alloc: Global,
+    ahead: &str,
+    more: &[&str],
+    names: &mut Vec<String>,
+) -> Result<(), AllocError>
+    ensures { OnOk result (map string_bytes names.new.items
+        ≡ map string_bytes names.old.items ++ map (λ name. ahead.now ++ name.now) more.now) }
+{
+    for name in more {
         let name = *name;
-        names.push(format!(in alloc; "sections.{name}")?)?;
+        names.push(format!(in alloc; "{ahead}{name}")?)?;
     }
-    Ok(names)
+    Ok(())
 }
 
 /// The names of what a rewrite drops of a tree.
-fn lost_names(alloc: Global, before: &Value) -> Result<Vec<String>, AllocError> {
+fn lost_names(alloc: Global, before: &Value) -> Result<Vec<String>, AllocError>
+    ensures { IfOk result (λ names. map string_bytes names.items ≡ drops_of_tree (view before.now)) }
+{
     let drops = dropped(alloc, before)?;
-    names_of(alloc, &drops)
+    let mut names = Vec::new(alloc);
+    add_names(alloc, "", &drops.own, &mut names)?;
+    add_names(alloc, "sections.", &drops.in_sections, &mut names)?;
+    Ok(names)
 }
 
 /// What changes of a tree, if that is asked for.
@@ -89,7 +115,9 @@ fn differences(
     bytes: &[u8],
     text: &[u8],
     shows: bool,
-) -> Result<(Vec<String>, Vec<String>), AllocError> {
+) -> Result<(Vec<String>, Vec<String>), AllocError>
+    ensures { IfOk result (λ d. map string_bytes d.0.items ≡ drops_of bytes.now) }
+{
     let before = tree(alloc, bytes)?;
     let names = lost_names(alloc, &before)?;
     let changes = changes_of(alloc, &before, text, shows)?;
@@ -97,30 +125,35 @@ fn differences(
 }
 
 impl<D: Disk> Case<'_, D> {
-    fn path(&self) -> &str {
-        self.target.file.as_str()
-    }
-
     /// The bytes of its file.
-    fn bytes(&self) -> Result<Vec<u8>, Verdict> {
-        match read_file(self.alloc, self.disk, self.path(), LIMIT) {
+    fn bytes(&self) -> Result<Vec<u8>, Failure>
+        ensures { IfOk result (λ bytes. IsHeld (D.held self.now.disk.now)
+            (string_bytes self.now.target.now.file) bytes.items) }
+    {
+        match read_file(self.alloc, self.disk, self.target.file.as_str(), LIMIT) {
             Ok(bytes) => Ok(bytes),
-            Err(FileFault::TooLong) => Err(Verdict::Failed(Failure::TooLong)),
-            Err(FileFault::Read(_)) => Err(Verdict::Failed(Failure::Unread)),
-            Err(FileFault::Memory) => Err(Verdict::Failed(Failure::Memory)),
+            Err(FileFault::TooLong) => Err(Failure::TooLong),
+            Err(FileFault::Read(_)) => Err(Failure::Unread),
+            Err(FileFault::Memory) => Err(Failure::Memory),
         }
     }
 
     /// The bytes of its file, and what that was before they were read.
-    pub(crate) fn stamped(&self) -> Result<(Stamp, Vec<u8>), Verdict> {
-        let Ok(stamp) = self.disk.stamp(self.path()) else {
-            return Err(Verdict::Failed(Failure::Unread));
+    fn stamped(&self) -> Result<(Stamp, Vec<u8>), Failure>
+        ensures { IfOk result (λ file. IsHeld (D.held self.now.disk.now)
+            (string_bytes self.now.target.now.file) file.1.items) }
+    {
+        let Ok(stamp) = self.disk.stamp(self.target.file.as_str()) else {
+            return Err(Failure::Unread);
         };
         Ok((stamp, self.bytes()?))
     }
 
     /// Its own URL.
-    pub(crate) fn base(&self) -> Result<Base, Verdict> {
+    fn base(&self) -> Result<Base, Verdict>
+        ensures { MatchResult result (λ base. parse_url None self.now.target.now.url.items ≡ Ok base)
+            (IsUnlooked self.now.target.now.url.items) }
+    {
         let Ok(url) = std::str::from_utf8(&self.target.url) else {
             return Err(Verdict::NotUrl);
         };
@@ -131,62 +164,136 @@ impl<D: Disk> Case<'_, D> {
         }
     }
 
-    fn checked(&self) -> Result<Verdict, Verdict> {
-        let bytes = self.bytes()?;
-        let base = self.base()?;
-        Ok(judged(self.alloc, &base, &bytes, self.url_bytes))
+    /// Its file, or what becomes of a map that can't be looked at.
+    fn file(&self) -> Result<MapFile, Verdict>
+        ensures { MatchResult result (IsFileOf (D.held self.now.disk.now)
+            (string_bytes self.now.target.now.file) self.now.target.now.url.items)
+            (IsUnlooked self.now.target.now.url.items) }
+    {
+        let (stamp, bytes) = match self.stamped() {
+            Ok(file) => file,
+            Err(failure) => return Err(Verdict::Failed(failure)),
+        };
+        match self.base() {
+            Ok(base) => Ok(MapFile { stamp, bytes, base }),
+            Err(verdict) => Err(verdict),
+        }
     }
 
-    /// Checks the map.
-    pub(crate) fn check(&self) -> Outcome {
-        match self.checked() {
-            Ok(verdict) | Err(verdict) => plain(self.alloc, verdict),
+    /// Gives its file this text.
+    pub(crate) fn replaced(&self, stamp: Stamp, text: &[u8]) -> Verdict
+        requires { IsDue (D.held self.now.disk.now) (string_bytes self.now.target.now.file)
+            self.now.target.now.url.items self.now.url_bytes self.now.work text.now }
+        ensures { IsDone Deed.Write result }
+    {
+        match replace(self, stamp, text) {
+            Ok(()) => Verdict::Rewritten,
+            Err(failure) => Verdict::Failed(failure),
         }
     }
 
     /// Does what is to be done with it, where it would become this text.
-    pub(crate) fn change(&self, stamp: Stamp, text: &[u8], deed: Deed) -> Verdict {
+    fn done(&self, stamp: Stamp, text: &[u8], deed: Deed) -> Verdict
+        requires { deed ≡ Deed.Write → IsDue (D.held self.now.disk.now)
+            (string_bytes self.now.target.now.file) self.now.target.now.url.items self.now.url_bytes
+            self.now.work text.now }
+        ensures { IsDone deed result }
+    {
         match deed {
             Deed::Tell | Deed::Show => Verdict::Changed,
             Deed::Keep => Verdict::Kept,
-            Deed::Write => match replace(self.alloc, self.disk, self.path(), stamp, text) {
-                Ok(()) => Verdict::Rewritten,
-                Err(failure) => Verdict::Failed(failure),
-            },
+            Deed::Write => self.replaced(stamp, text),
         }
     }
 
-    fn compared(&self, form: Form, rewrite: Rewrite) -> Result<Outcome, Verdict> {
+    /// What becomes of it where its form is this text, of other bytes.
+    fn changed(&self, file: &MapFile, rewrite: Rewrite, text: &[u8]) -> Outcome
+        requires file { IsFileOf (D.held self.now.disk.now) (string_bytes self.now.target.now.file)
+            self.now.target.now.url.items file.now }
+        requires form { IsOtherForm self.now.work rewrite file.now.base self.now.url_bytes
+            file.now.bytes.items text.now }
+        ensures { IsOutcomeOf self.now.work file.now.base self.now.url_bytes file.now.bytes.items result }
+    {
         let alloc = self.alloc;
-        let (stamp, bytes) = self.stamped()?;
-        let base = self.base()?;
-        let text = match formed(alloc, form, &base, &bytes, self.url_bytes) {
-            Ok(Some(text)) => text,
-            Ok(None) => return Err(Verdict::LongUrls(self.url_bytes)),
-            Err(error) => {
-                let text = map_text(&base, &bytes, self.url_bytes);
-                return Err(unread(alloc, &text, error));
-            }
-        };
-        if text.as_slice() == bytes.as_slice() {
-            return Ok(plain(alloc, Verdict::Unchanged));
-        }
         let shows = rewrite == Rewrite::Diff;
-        let Ok((drops, changes)) = differences(alloc, &bytes, &text, shows) else {
-            return Err(Verdict::Failed(Failure::Memory));
+        let Ok((drops, changes)) = differences(alloc, &file.bytes, text, shows) else {
+            return plain(alloc, Verdict::Failed(Failure::Memory));
         };
         let deed = decided(rewrite, !drops.is_empty());
-        Ok(Outcome {
-            verdict: self.change(stamp, &text, deed),
+        Outcome {
+            verdict: self.done(file.stamp, text, deed),
             drops,
             changes,
-        })
+        }
     }
 
-    /// Compares the map with a form of it, and rewrites it where that is wanted.
-    pub(crate) fn compare(&self, form: Form, rewrite: Rewrite) -> Outcome {
-        match self.compared(form, rewrite) {
+    /// What becomes of it once it is compared with a form of it; a verdict alone where it has no other form.
+    fn compared(&self, file: &MapFile, form: Form, rewrite: Rewrite) -> Result<Outcome, Verdict>
+        requires file { IsFileOf (D.held self.now.disk.now) (string_bytes self.now.target.now.file)
+            self.now.target.now.url.items file.now }
+        requires work { self.now.work ≡ Work.Compare form rewrite }
+        ensures { MatchResult result
+            (IsCompared form rewrite file.now.base self.now.url_bytes file.now.bytes.items)
+            (IsUnchangedAs form rewrite file.now.base self.now.url_bytes file.now.bytes.items) }
+    {
+        let (alloc, base, bytes) = (self.alloc, &file.base, file.bytes.as_slice());
+        match formed(alloc, form, base, bytes, self.url_bytes) {
+            Ok(Some(text)) if text.as_slice() == bytes => Err(Verdict::Unchanged),
+            Ok(Some(text)) => Ok(self.changed(file, rewrite, &text)),
+            Ok(None) => Err(Verdict::LongUrls(self.url_bytes)),
+            Err(error) => {
+                let text = MapText {
+                    bytes,
+                    base,
+                    url_bytes: self.url_bytes,
+                    is_file: true,
+                };
+                Err(unread(alloc, &text, error))
+            }
+        }
+    }
+
+    /// The same, as an outcome.
+    fn compare(&self, file: &MapFile, form: Form, rewrite: Rewrite) -> Outcome
+        requires file { IsFileOf (D.held self.now.disk.now) (string_bytes self.now.target.now.file)
+            self.now.target.now.url.items file.now }
+        requires work { self.now.work ≡ Work.Compare form rewrite }
+        ensures { IsCompared form rewrite file.now.base self.now.url_bytes file.now.bytes.items result }
+    {
+        match self.compared(file, form, rewrite) {
             Ok(outcome) => outcome,
+            Err(verdict) => plain(self.alloc, verdict),
+        }
+    }
+
+    /// What becomes of it where it is read alone.
+    fn check(&self, file: &MapFile) -> Outcome
+        ensures { IsJudged file.now.base self.now.url_bytes file.now.bytes.items result.verdict }
+    {
+        let verdict = judged(self.alloc, &file.base, &file.bytes, self.url_bytes);
+        plain(self.alloc, verdict)
+    }
+
+    /// What becomes of it, whose file is this.
+    fn looked_at(&self, file: &MapFile) -> Outcome
+        requires { IsFileOf (D.held self.now.disk.now) (string_bytes self.now.target.now.file)
+            self.now.target.now.url.items file.now }
+        ensures { IsOutcomeOf self.now.work file.now.base self.now.url_bytes file.now.bytes.items result }
+    {
+        match self.work {
+            Work::Check { .. } => self.check(file),
+            Work::Compare { form, rewrite } => self.compare(file, form, rewrite),
+            Work::Repair { write } => repaired(self, file, write),
+        }
+    }
+
+    /// What becomes of it.
+    pub(crate) fn outcome(&self) -> Outcome
+        ensures { IsOutcome (D.held self.now.disk.now) (string_bytes self.now.target.now.file)
+            self.now.target.now.url.items self.now.url_bytes self.now.work result }
+    {
+        match self.file() {
+            Ok(file) => self.looked_at(&file),
             Err(verdict) => plain(self.alloc, verdict),
         }
     }

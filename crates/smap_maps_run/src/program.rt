@@ -1,56 +1,30 @@
 //! A run of `smap-maps`.
+ghost use Rattle.std.specs.Prelude.{◌≡◌, [], IfOk, Ok, OnOk, map};
+ghost use Rattle.std.specs.Io.KnownBytes.{Appends};
+ghost use Rattle.smap_command_line.specs.Maps.{IsAsked};
+ghost use Rattle.smap_system.specs.Watched.{inner_of};
+ghost use Rattle.smap_maps_run.specs.Outcomes.{status as status_of};
+ghost use Rattle.smap_maps_run.specs.Runs as spec;
+ghost use Rattle.smap_maps_run.specs.Runs.{AreLookedAt, IsAnswered, IsDoneIf, IsDoneTo, IsLook};
+ghost use Rattle.smap_maps_run.specs.Runs.{counts_line, counts_of, look_text};
+ghost use Rattle.smap_maps_run.specs.declared.outcome.Outcome.{Outcome};
+ghost use Rattle.smap_maps_run.specs.Targets.{NamesAll};
 
-use crate::deciding::wants_json;
+use crate::Tally;
+use crate::deciding::Work;
 use crate::forms::Form;
 use crate::linting::lint_asked;
 use crate::looking::Case;
 use crate::progress::Progress;
-use crate::repairing::repair;
-use crate::reporting::{Style, report, says_something, write_line};
+use crate::reporting::{report, says_something, write_line};
 use crate::targets::{Target, targets_of};
-use crate::{Outcome, Tally};
-use smap_command_line::maps::{Asked, HELP, MapsWords, Rewrite, WordFault, maps_words, message};
+use smap_command_line::maps::{Asked, HELP, MapsWords, WordFault, maps_words, message};
 use smap_command_line::{MapsCommand, VERSION};
 use smap_lint_run::lint;
 use smap_map_files::{base_given, refuse_options};
 use smap_system::{Disk, Host, Stop, Watched};
 use std::io::Write;
 use std::rt::Clock;
-
-/// What is done with each map.
-#[derive(Clone, Copy, PartialEq, Eq)]
-enum Work {
-    Check { json: bool },
-    Compare { form: Form, rewrite: Rewrite },
-    Repair { write: bool },
-}
-
-impl Work {
-    fn style(self) -> Style {
-        match self {
-            Work::Check { json } => Style {
-                json,
-                rewrites: false,
-            },
-            Work::Compare { rewrite, .. } => Style {
-                json: wants_json(rewrite),
-                rewrites: true,
-            },
-            Work::Repair { .. } => Style {
-                json: false,
-                rewrites: true,
-            },
-        }
-    }
-
-    fn outcome<D: Disk>(self, case: &Case<'_, D>) -> Outcome {
-        match self {
-            Work::Check { .. } => case.check(),
-            Work::Compare { form, rewrite } => case.compare(form, rewrite),
-            Work::Repair { write } => repair(case, write),
-        }
-    }
-}
 
 /// What a run does.
 #[derive(Clone, Copy)]
@@ -60,6 +34,34 @@ struct Job {
     url_bytes: usize,
 }
 
+/// Looks at a map, and says what became of it: answers the status of that.
+fn look_at<E: Eprint + AllocGlobal, D: Disk, W: Write>(
+    host: &Host<'_, E, D>,
+    job: Job,
+    target: &Target,
+    progress: &mut Progress,
+    writer: &mut Watched<W>,
+) -> Result<u8, Stop>
+    ensures { IfOk result (λ status. (o : Outcome) × (status ≡ status_of o.verdict)
+        × IsLook (D.held host.now.disk.now) job.url_bytes job.work (target.now, o)
+        × Appends (W.contents (inner_of writer.old)) (W.contents (inner_of writer.new))
+        (look_text job.work (target.now, o))) }
+{
+    let outcome = Case {
+        alloc: host.alloc(),
+        disk: host.disk,
+        target,
+        work: job.work,
+        url_bytes: job.url_bytes,
+    }
+    .outcome();
+    if says_something(job.work, &outcome.verdict) {
+        progress.erase(host.rt);
+    }
+    report(host, job.work, target.file.as_str(), &outcome, writer)?;
+    Ok(outcome.verdict.status())
+}
+
 /// Looks at each map, and says what became of it.
 fn look_at_all<E: Eprint + AllocGlobal + Clock, D: Disk, W: Write>(
     host: &Host<'_, E, D>,
@@ -67,22 +69,15 @@ fn look_at_all<E: Eprint + AllocGlobal + Clock, D: Disk, W: Write>(
     targets: &[Target],
     progress: &mut Progress,
     writer: &mut Watched<W>,
-) -> Result<Tally, Stop> {
+) -> Result<Tally, Stop>
+    ensures { IfOk result (λ tally. AreLookedAt (D.held host.now.disk.now) job.url_bytes job.work targets.now
+        tally (W.contents (inner_of writer.old)) (W.contents (inner_of writer.new))) }
+{
     let mut tally = Tally::new();
-    let style = job.work.style();
-    for (done, target) in targets.iter().enumerate() {
+    for done in 0..targets.len() {
         progress.show(host.rt, done);
-        let outcome = job.work.outcome(&Case {
-            alloc: host.alloc(),
-            disk: host.disk,
-            target,
-            url_bytes: job.url_bytes,
-        });
-        tally = tally.with(outcome.verdict.status());
-        if says_something(style, &outcome.verdict) {
-            progress.erase(host.rt);
-        }
-        report(host, style, target.file.as_str(), &outcome, writer)?;
+        let status = look_at(host, job, &targets[done], progress, writer)?;
+        tally = tally.with(status);
     }
     Ok(tally)
 }
@@ -92,7 +87,10 @@ fn write_counts<E: Eprint + AllocGlobal, D: Disk, W: Write>(
     host: &Host<'_, E, D>,
     tally: Tally,
     writer: &mut Watched<W>,
-) -> Result<(), Stop> {
+) -> Result<(), Stop>
+    ensures { OnOk result (Appends (W.contents (inner_of writer.old)) (W.contents (inner_of writer.new))
+        (counts_line tally)) }
+{
     let (accepted, refused) = (tally.accepted, tally.refused);
     let text = format!(in host.alloc(); "{accepted} accepted, {refused} refused")?;
     write_line(host, text.as_str(), writer)
@@ -102,7 +100,10 @@ fn write_counts<E: Eprint + AllocGlobal, D: Disk, W: Write>(
 fn targets<E: Eprint + AllocGlobal, D: Disk>(
     host: &Host<'_, E, D>,
     asked: &MapsWords<'_>,
-) -> Result<Vec<Target>, Stop> {
+) -> Result<Vec<Target>, Stop>
+    ensures { IfOk result (λ targets. NamesAll (D.tree host.now.disk.now)
+        (map (λ p. p.now) asked.now.paths.items) [] targets.items) }
+{
     match asked.options.text("base") {
         Some(base) => {
             let base = base_given(host, base)?;
@@ -112,75 +113,144 @@ fn targets<E: Eprint + AllocGlobal, D: Disk>(
     }
 }
 
-/// Looks at the maps that are named.
+/// The same, showing how many are done where standard error is a terminal.
+fn look_showing<E: Eprint + AllocGlobal + Clock, D: Disk, W: Write>(
+    host: &Host<'_, E, D>,
+    job: Job,
+    targets: &[Target],
+    on_terminal: bool,
+    writer: &mut Watched<W>,
+) -> Result<Tally, Stop>
+    ensures { IfOk result (λ tally. AreLookedAt (D.held host.now.disk.now) job.url_bytes job.work targets.now
+        tally (W.contents (inner_of writer.old)) (W.contents (inner_of writer.new))) }
+{
+    let mut progress = Progress::new(targets.len(), on_terminal);
+    let answer = look_at_all(host, job, targets, &mut progress, writer);
+    progress.erase(host.rt);
+    answer
+}
+
+/// Writes the counts where that is to be done: of a check without lines of JSON.
+fn end_counts<E: Eprint + AllocGlobal, D: Disk, W: Write>(
+    host: &Host<'_, E, D>,
+    work: Work,
+    tally: Tally,
+    writer: &mut Watched<W>,
+) -> Result<(), Stop>
+    ensures { OnOk result (Appends (W.contents (inner_of writer.old)) (W.contents (inner_of writer.new))
+        (counts_of work tally)) }
+{
+    match work {
+        Work::Check { json: false } => write_counts(host, tally, writer),
+        Work::Check { json: true } | Work::Compare { .. } | Work::Repair { .. } => Ok(()),
+    }
+}
+
+/// Looks at the maps that are named. Answers the status of a run that came to its end: the greatest of all.
 fn work_on<E: Eprint + AllocGlobal + Clock, D: Disk, W: Write>(
     host: &Host<'_, E, D>,
     asked: &MapsWords<'_>,
     work: Work,
     on_terminal: bool,
     writer: &mut Watched<W>,
-) -> Result<(), Stop> {
+) -> Result<u8, Stop>
+    ensures { IfOk result (IsDoneTo (D.tree host.now.disk.now) (D.held host.now.disk.now) asked.now work
+        (W.contents (inner_of writer.old)) (W.contents (inner_of writer.new))) }
+{
     let targets = targets(host, asked)?;
-    let mut progress = Progress::new(targets.len(), on_terminal);
-    let job = Job {
-        work,
-        url_bytes: asked.options.url_bytes(),
-    };
-    let answer = look_at_all(host, job, &targets, &mut progress, writer);
-    progress.erase(host.rt);
-    let tally = answer?;
-    if work == (Work::Check { json: false }) {
-        write_counts(host, tally, writer)?;
-    }
-    if tally.worst > 0 {
-        return Err(Stop::Reported(tally.worst));
-    }
-    Ok(())
+    let url_bytes = asked.options.url_bytes();
+    let job = Job { work, url_bytes };
+    let tally = look_showing(host, job, &targets, on_terminal, writer)?;
+    end_counts(host, work, tally, writer)?;
+    Ok(tally.worst)
 }
 
-/// Does what the command says.
+/// What is done with each map that the words name; none for `lint`.
+fn work_of(asked: &MapsWords<'_>) -> Option<Work>
+    ensures { result ≡ spec.work_of asked.now }
+{
+    let options = &asked.options;
+    match asked.command {
+        MapsCommand::Check => Some(Work::Check {
+            json: options.has("json"),
+        }),
+        MapsCommand::Tidy => Some(Work::Compare {
+            form: Form::Canonical {
+                relative: asked.relative(),
+            },
+            rewrite: asked.rewrite(),
+        }),
+        MapsCommand::Flatten => Some(Work::Compare {
+            form: Form::Flat,
+            rewrite: asked.rewrite(),
+        }),
+        MapsCommand::Repair => Some(Work::Repair {
+            write: options.has("write"),
+        }),
+        MapsCommand::Lint => None,
+    }
+}
+
+/// Does what the command says. Answers the status of a run that came to its end.
 fn do_task<E: Eprint + AllocGlobal + Clock, D: Disk, W: Write>(
     host: &Host<'_, E, D>,
     asked: &MapsWords<'_>,
     on_terminal: bool,
     writer: &mut Watched<W>,
-) -> Result<(), Stop> {
-    let options = &asked.options;
-    let work = match asked.command {
-        MapsCommand::Check => Work::Check {
-            json: options.has("json"),
-        },
-        MapsCommand::Tidy => Work::Compare {
-            form: Form::Canonical {
-                relative: asked.relative(),
-            },
-            rewrite: asked.rewrite(),
-        },
-        MapsCommand::Flatten => Work::Compare {
-            form: Form::Flat,
-            rewrite: asked.rewrite(),
-        },
-        MapsCommand::Repair => Work::Repair {
-            write: options.has("write"),
-        },
-        MapsCommand::Lint => {
+) -> Result<u8, Stop>
+    ensures { IfOk result (IsDoneIf (D.tree host.now.disk.now) (D.held host.now.disk.now) asked.now
+        (spec.work_of asked.now) (W.contents (inner_of writer.old)) (W.contents (inner_of writer.new))) }
+{
+    match work_of(asked) {
+        Some(work) => work_on(host, asked, work, on_terminal, writer),
+        None => {
             let asked = lint_asked(host.alloc(), asked)?;
-            return lint(host, &asked, writer);
+            lint(host, &asked, writer)?;
+            Ok(0)
         }
-    };
-    work_on(host, asked, work, on_terminal, writer)
+    }
 }
 
-/// What the words ask for.
+/// The exit status of a run that came to its end with this status, or stopped: then it is never 0.
+fn exit_status<E: Eprint + AllocGlobal, D: Disk>(
+    host: &Host<'_, E, D>,
+    answer: Result<u8, Stop>,
+) -> u8
+    ensures { result ≡ 0 → answer ≡ Ok 0 }
+{
+    match answer {
+        Ok(status) => status,
+        Err(stop) => host.status(Err(stop)),
+    }
+}
+
+/// Writes a text that is asked for: that is done.
+fn said<E: Eprint + AllocGlobal, D: Disk, W: Write>(
+    host: &Host<'_, E, D>,
+    text: &str,
+    writer: &mut Watched<W>,
+) -> Result<u8, Stop>
+    ensures { IfOk result (λ status. Appends (W.contents (inner_of writer.old))
+        (W.contents (inner_of writer.new)) text.now) }
+{
+    host.write(text.as_bytes(), writer)?;
+    Ok(0)
+}
+
+/// Does what the words ask for. Answers the status of a run that came to its end.
 fn answer<E: Eprint + AllocGlobal + Clock, D: Disk, W: Write>(
     host: &Host<'_, E, D>,
     words: &[&str],
     on_terminal: bool,
     writer: &mut Watched<W>,
-) -> Result<(), Stop> {
+) -> Result<u8, Stop>
+    ensures { IfOk result (λ status. (asked : Asked) × IsAsked (map (λ w. w.now) words.now) asked
+        × IsAnswered (D.tree host.now.disk.now) (D.held host.now.disk.now) HELP.now VERSION.now asked
+        (W.contents (inner_of writer.old)) (W.contents (inner_of writer.new)) status) }
+{
     match maps_words(host.alloc(), words) {
-        Ok(Asked::Help) => host.write(HELP.as_bytes(), writer),
-        Ok(Asked::Version) => host.write(VERSION.as_bytes(), writer),
+        Ok(Asked::Help) => said(host, HELP, writer),
+        Ok(Asked::Version) => said(host, VERSION, writer),
         Ok(Asked::Maps(asked)) => do_task(host, &asked, on_terminal, writer),
         Err(WordFault::Options(fault)) => Err(refuse_options(host, &fault)),
         Err(WordFault::Nothing) => Err(host.fail_with_help(HELP)),
@@ -199,14 +269,16 @@ pub fn run<E: Eprint + AllocGlobal + Clock, D: Disk, W: Write>(
     words: &[&str],
     on_terminal: bool,
     output: &mut Watched<W>,
-) -> u8 {
+) -> u8
+    ensures { result ≡ 0 → (asked : Asked) × IsAsked (map (λ w. w.now) words.now) asked
+        × IsAnswered (D.tree disk.now) (D.held disk.now) HELP.now VERSION.now asked
+        (W.contents (inner_of output.old)) (W.contents (inner_of output.new)) 0 }
+{
     let host = Host {
         rt,
         disk,
         name: "smap-maps",
     };
-    match answer(&host, words, on_terminal, output) {
-        Ok(()) => 0,
-        Err(stop) => host.end(stop),
-    }
+    let answer = answer(&host, words, on_terminal, output);
+    exit_status(&host, answer)
 }

@@ -1,15 +1,22 @@
 //! A file that gets other bytes.
+ghost use Rattle.std.specs.Prelude.{OnOk, string_bytes};
+ghost use Rattle.std.specs.Io.KnownBytes.{Appends};
+ghost use Rattle.smap_maps_run.specs.Looking.{IsDue};
 
 use crate::Failure;
+use crate::looking::Case;
 use smap_system::{BesideFault, Disk, Stamp, create_beside};
-use std::alloc::Global;
 use std::io::{self, Write};
 
-/// Writes bytes to a file, and waits until they are there.
-fn write<D: Disk>(disk: &D, writer: &mut D::Writer, bytes: &[u8]) -> io::Result<()> {
-    writer.write_all(bytes)?;
+/// Writes what the file of a map is to hold, and waits until it is there.
+fn write<D: Disk>(case: &Case<'_, D>, writer: &mut D::Writer, text: &[u8]) -> io::Result<()>
+    requires { IsDue (D.held case.now.disk.now) (string_bytes case.now.target.now.file)
+        case.now.target.now.url.items case.now.url_bytes case.now.work text.now }
+    ensures { OnOk result (Appends (D.Writer.contents writer.old) (D.Writer.contents writer.new) text.now) }
+{
+    writer.write_all(text)?;
     writer.flush()?;
-    disk.sync(writer)
+    case.disk.sync(writer)
 }
 
 /// Whether a file is what it was.
@@ -17,21 +24,20 @@ fn is_same<D: Disk>(disk: &D, path: &str, stamp: Stamp) -> bool {
     disk.stamp(path).is_ok_and(|now| now == stamp)
 }
 
-/// Gives a file, which was this when its bytes were read, other bytes: a file beside it is written in full,
-/// and then takes its name. Where this fails, the file is as it was, or as another program has written it.
-pub(crate) fn replace<D: Disk>(
-    alloc: Global,
-    disk: &D,
-    path: &str,
-    stamp: Stamp,
-    bytes: &[u8],
-) -> Result<(), Failure> {
-    let (beside, mut writer) = match create_beside(alloc, disk, path) {
+/// Gives the file of a map, which was this when its bytes were read, other bytes: a file beside it is written
+/// in full, and then takes its name. Where this fails, the file is as it was, or as another program has
+/// written it.
+pub(crate) fn replace<D: Disk>(case: &Case<'_, D>, stamp: Stamp, text: &[u8]) -> Result<(), Failure>
+    requires { IsDue (D.held case.now.disk.now) (string_bytes case.now.target.now.file)
+        case.now.target.now.url.items case.now.url_bytes case.now.work text.now }
+{
+    let (disk, path) = (case.disk, case.target.file.as_str());
+    let (beside, mut writer) = match create_beside(case.alloc, disk, path) {
         Ok(made) => made,
         Err(BesideFault::Name(_)) => return Err(Failure::Unwritable),
         Err(BesideFault::Folder(_)) => return Err(Failure::Folder),
     };
-    let written = write(disk, &mut writer, bytes);
+    let written = write(case, &mut writer, text);
     drop(writer);
     if written.is_err() {
         beside.abandon(disk);

@@ -1,9 +1,12 @@
 //! The maps that the paths name, with their URLs.
+ghost use Rattle.std.specs.Prelude.{◌≡◌, ◌++◌, ◌∷◌, [], IfOk, OnOk, map, string_bytes};
+ghost use Rattle.smap_maps_run.specs.Targets.{AreMapsIn, NamesAll, NamesFolder, NamesPath, files_of};
+ghost use Rattle.smap_maps_run.specs.Targets.{paths_below};
 
 use smap_link::script_url;
 use smap_lint_run::{refuse_empty, refuse_path};
-use smap_map_files::folder_url;
-use smap_system::{Disk, Host, Kind, Stop, parted, walk};
+use smap_map_files::{folder_url, without_slashes};
+use smap_system::{Disk, Host, Kind, Stop, joined, parted, walk};
 use std::alloc::{AllocError, Global};
 
 /// A map to be looked at.
@@ -21,7 +24,10 @@ fn add(
     name: &str,
     file: String,
     targets: &mut Vec<Target>,
-) -> Result<(), AllocError> {
+) -> Result<(), AllocError>
+    ensures { OnOk result (files_of targets.new.items
+        ≡ files_of targets.old.items ++ string_bytes file ∷ []) }
+{
     let url = script_url(alloc, folder_url, name.as_bytes())?;
     targets.push(Target { file, url })?;
     Ok(())
@@ -32,10 +38,11 @@ fn names_in<E: Eprint + AllocGlobal, D: Disk>(
     host: &Host<'_, E, D>,
     given: &str,
     folder: &str,
-) -> Result<Vec<String>, Stop> {
+) -> Result<Vec<String>, Stop>
+    ensures { IfOk result (λ names. AreMapsIn (D.tree host.now.disk.now) folder.now names.items) }
+{
     let alloc = host.alloc();
-    let start = if folder.is_empty() { "/" } else { folder };
-    let found = match walk(alloc, host.disk, start, &[".map"]) {
+    let found = match walk(alloc, host.disk, folder, &[".map"]) {
         Ok(found) => found,
         Err(fault) => return Err(host.fail_walking(given, fault)),
     };
@@ -46,23 +53,39 @@ fn names_in<E: Eprint + AllocGlobal, D: Disk>(
     Err(refuse_empty(host, given, "*.map", found.only_links))
 }
 
+/// Adds maps with these names below a folder.
+fn add_below(
+    alloc: Global,
+    folder_url: &[u8],
+    folder: &str,
+    names: &[String],
+    targets: &mut Vec<Target>,
+) -> Result<(), AllocError>
+    ensures { OnOk result (files_of targets.new.items
+        ≡ files_of targets.old.items ++ paths_below folder.now names.now) }
+{
+    for name in names {
+        let name = name.as_str();
+        let file = joined(alloc, folder, name)?;
+        add(alloc, folder_url, name, file, targets)?;
+    }
+    Ok(())
+}
+
 /// Adds the maps in a folder and below it.
 fn add_folder<E: Eprint + AllocGlobal, D: Disk>(
     host: &Host<'_, E, D>,
     base: Option<&str>,
     given: &str,
     targets: &mut Vec<Target>,
-) -> Result<(), Stop> {
-    let alloc = host.alloc();
-    let folder = given.trim_end_matches('/');
+) -> Result<(), Stop>
+    ensures { OnOk result (NamesFolder (D.tree host.now.disk.now) given.now targets.old.items
+        targets.new.items) }
+{
+    let folder = without_slashes(given);
     let names = names_in(host, given, folder)?;
-    let start = if folder.is_empty() { "/" } else { folder };
-    let url = folder_url(host, base, start)?;
-    for name in &names {
-        let name = name.as_str();
-        let file = format!(in alloc; "{folder}/{name}")?;
-        add(alloc, &url, name, file, targets)?;
-    }
+    let url = folder_url(host, base, folder)?;
+    add_below(host.alloc(), &url, folder, &names, targets)?;
     Ok(())
 }
 
@@ -72,7 +95,9 @@ fn add_file<E: Eprint + AllocGlobal, D: Disk>(
     base: Option<&str>,
     given: &str,
     targets: &mut Vec<Target>,
-) -> Result<(), Stop> {
+) -> Result<(), Stop>
+    ensures { OnOk result (files_of targets.new.items ≡ files_of targets.old.items ++ given.now ∷ []) }
+{
     let alloc = host.alloc();
     let (folder, name) = parted(given);
     let url = folder_url(host, base, folder)?;
@@ -86,7 +111,10 @@ fn add_path<E: Eprint + AllocGlobal, D: Disk>(
     base: Option<&str>,
     given: &str,
     targets: &mut Vec<Target>,
-) -> Result<(), Stop> {
+) -> Result<(), Stop>
+    ensures { OnOk result (NamesPath (D.tree host.now.disk.now) given.now targets.old.items
+        targets.new.items) }
+{
     match host.disk.kind(given) {
         Kind::Folder => add_folder(host, base, given, targets),
         Kind::File => add_file(host, base, given, targets),
@@ -99,7 +127,10 @@ pub(crate) fn targets_of<E: Eprint + AllocGlobal, D: Disk>(
     host: &Host<'_, E, D>,
     base: Option<&str>,
     paths: &[&str],
-) -> Result<Vec<Target>, Stop> {
+) -> Result<Vec<Target>, Stop>
+    ensures { IfOk result (λ targets. NamesAll (D.tree host.now.disk.now) (map (λ p. p.now) paths.now) []
+        targets.items) }
+{
     let mut targets = Vec::new(host.alloc());
     for path in paths {
         add_path(host, base, *path, &mut targets)?;

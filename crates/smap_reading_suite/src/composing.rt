@@ -1,7 +1,7 @@
 //! Maps that are composed.
 use crate::asserted::equal;
 use crate::maps::{base_of, told};
-use smap_compose::compose;
+use smap_compose::{compose, compose_chain, first_unled, only_used, thin};
 use smap_record::{Base, Limits, SourceMap};
 use std::process::Abort;
 
@@ -67,4 +67,67 @@ fn a_map_is_composed(rt: HostRuntime) {
         Limits::usual(),
     );
     is_composition(&rt, &composed.expect(&rt, "the maps are composed"));
+}
+
+/// Two links of one name: the source of the first leads to the second, whose source leads no further.
+const CHAIN: [&str; 3] = [
+    r#"{"version":3,"sources":["a.js"],"names":[],"mappings":"AAAA,GAAK"}"#,
+    r#"{"version":3,"sources":["a.js"],"names":[],"mappings":"AAAA,KAEC"}"#,
+    r#"{"version":3,"sources":["a.js"],"names":["f"],"mappings":"AASA;;AADIA"}"#,
+];
+
+#[test]
+fn a_chain_is_composed(rt: HostRuntime) {
+    let base = base_of(&rt, "http://h/out.js.map");
+    let outer = read(&rt, CHAIN[0], &base);
+    let script = "http://h/a.js";
+    let links = [
+        (script, read(&rt, CHAIN[1], &base)),
+        (script, read(&rt, CHAIN[2], &base)),
+    ];
+    let unled = first_unled(rt.alloc(), &outer, &links);
+    equal(
+        &rt,
+        "unled",
+        unled.expect(&rt, "the links are looked at"),
+        None,
+    );
+    let chained = compose_chain(rt.alloc(), &outer, &links, Limits::usual());
+    let chained = chained.expect(&rt, "the chain is composed");
+    assert!(rt; chained.token_count() == 2);
+    let last = told(chained.token(1));
+    equal(&rt, "last", last, (0, 3, Some((0, 8, 4, Some("f")))));
+}
+
+#[test]
+fn a_map_is_thinned(rt: HostRuntime) {
+    let base = base_of(&rt, "http://h/out.js.map");
+    let text = r#"{"version":3,"sources":["a.ts"],"names":[],"mappings":"AAOC,EAAA,E;A"}"#;
+    let thinned = thin(rt.alloc(), &read(&rt, text, &base));
+    let thinned = thinned.expect(&rt, "the map is thinned");
+    assert!(rt; thinned.token_count() == 2);
+    equal(&rt, "last", told(thinned.token(1)), (0, 4, None));
+}
+
+#[test]
+fn used_sources_stay(rt: HostRuntime) {
+    let base = base_of(&rt, "http://h/out.js.map");
+    let text =
+        r#"{"version":3,"sources":["a.ts","b.ts","c.ts",null],"names":[],"mappings":"ACAA,EECC"}"#;
+    let used = only_used(rt.alloc(), &read(&rt, text, &base));
+    let used = used.expect(&rt, "the sources are left out");
+    assert!(rt; used.source_count() == 2);
+    assert!(rt; used.token_count() == 2);
+    equal(
+        &rt,
+        "first",
+        told(used.token(0)),
+        (0, 0, Some((0, 0, 0, None))),
+    );
+    equal(
+        &rt,
+        "last",
+        told(used.token(1)),
+        (0, 2, Some((1, 1, 1, None))),
+    );
 }

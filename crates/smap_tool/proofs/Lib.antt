@@ -8,6 +8,7 @@ mod Examples
 pub mod HeaderLemmas
 pub mod LawLemmas
 mod LimitLemmas
+pub mod LinkLemmas
 pub mod ListingLemmas
 pub mod ParsedLemmas
 pub mod RangeLemmas

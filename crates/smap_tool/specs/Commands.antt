@@ -23,6 +23,7 @@ use Rattle.smap_canon.specs.Layout.{flat_text}
 pub use Rattle.smap_canon.specs.Layout.{form_asked}
 use Rattle.smap_trace.specs.Lookup.{mapping_at}
 use Rattle.smap_trace.specs.Translation.{without_line_feed}
+use Rattle.smap_tool.specs.Compose.{compose_output}
 use Rattle.smap_tool.specs.FaultLine.{fault_line}
 use Rattle.smap_tool.specs.MapRun.{map_output}
 use Rattle.smap_tool.specs.Run.{WritesOutput, WritesOutputAgainst, Runs}
@@ -31,7 +32,7 @@ use Rattle.smap_tool.specs.Translate.{RunsTranslate, fates_asked}
 use Rattle.smap_tool.specs.Words.{HasFlag, HasNumber, HasText, IsOneOf, flag, on_base, position_argument}
 use Rattle.smap_tool.specs.declared.commands.Task.{Task}
 use Rattle.smap_tool.specs.declared.commands.Task.TheVariants.{Respell, Check, Tidy, Flatten, Lookup}
-use Rattle.smap_tool.specs.declared.commands.Task.TheVariants.{Scripts, Translate}
+use Rattle.smap_tool.specs.declared.commands.Task.TheVariants.{Compose, Scripts, Translate}
 use Rattle.smap_tool.specs.declared.outcome.Outcome.{Outcome}
 use Rattle.smap_tool.specs.declared.outcome.Outcome.TheVariants.{Done, Refused}
 use Rattle.smap_tool.specs.declared.outcome.RunFault.{RunFault}
@@ -63,6 +64,10 @@ translate = with_rule (with_rule (with_rule (new_app (codes "translate")) (flag 
 abbrev pub scripts : App
 scripts = new_app (codes "scripts")
 
+abbrev pub compose : App
+compose = with_rule (with_rule (with_rule (new_app (codes "compose")) (flag (codes "relative")))
+    (flag (codes "thin"))) (flag (codes "used"))
+
 -- `smap` without its subcommands: one is required, there is no subcommand `help`, and there is a version
 abbrev pub smap_alone : App
 smap_alone = record (new_app (codes "smap")) {
@@ -75,8 +80,8 @@ smap_alone = record (new_app (codes "smap")) {
 
 abbrev pub smap : App
 smap = with_subcommand (with_subcommand (with_subcommand (with_subcommand (with_subcommand
-    (with_subcommand (with_subcommand smap_alone respell.top) check.top) tidy.top) flatten.top) lookup.top)
-    translate.top) scripts.top
+    (with_subcommand (with_subcommand (with_subcommand smap_alone respell.top) check.top) tidy.top)
+    flatten.top) lookup.top) translate.top) scripts.top) compose.top
 
 -- ---- the task of a command line
 
@@ -94,6 +99,8 @@ IsTaskOf m (Translate mode hide) = (m.0 ≡ codes "translate")
     × HasFlag m.1 (codes "ignore-query") mode.ignore_query
     × HasFlag m.1 (codes "hide-ignored") hide
 IsTaskOf m Scripts = m.0 ≡ codes "scripts"
+IsTaskOf m (Compose options) = (m.0 ≡ codes "compose") × HasFlag m.1 (codes "relative") options.relative
+    × HasFlag m.1 (codes "thin") options.thin × HasFlag m.1 (codes "used") options.used
 
 -- There is a subcommand, and the task is its task.
 abbrev pub TaskGiven : Option (Text × List Row) → Task → Type 0
@@ -212,6 +219,7 @@ RunsTask (Lookup base line column) =
     Runs (WritesOutputAgainst (parse_url None base.now) (lookup_output line column))
 RunsTask (Translate mode hide) = RunsTranslate (fates_asked mode hide)
 RunsTask Scripts = RunsScripts
+RunsTask (Compose options) = Runs (WritesOutput (compose_output options))
 
 -- How many reads its run makes at most: one for each byte that an input may have, and one more. A trace has
 -- no limit on its length, but one on the reads, and so have the entries of a bundle.
@@ -223,3 +231,4 @@ most_reads (Flatten base) = longest_input + 1
 most_reads (Lookup base line column) = longest_input + 1
 most_reads (Translate mode hide) = 2 * most_calls
 most_reads Scripts = most_calls
+most_reads (Compose options) = longest_input + 1

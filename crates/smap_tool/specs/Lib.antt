@@ -2,10 +2,12 @@ pub mod Bundle
 pub mod BundleLaws
 pub mod BundleLine
 pub mod Commands
+pub mod Compose
 pub mod Entries
 pub mod FaultLine
 pub mod Header
 pub mod Laws
+pub mod Links
 pub mod MapRun
 pub mod Reach
 pub mod Reading

@@ -22,6 +22,7 @@ use std::alloc::{AllocError, Global};
 use std::io::{Read, Write};
 
 mod check;
+mod compose;
 mod flatten;
 mod lookup;
 mod respell;
@@ -31,6 +32,8 @@ mod translate;
 
 use check::check_command;
 pub use check::run_check;
+use compose::compose_command;
+pub use compose::{ComposeOptions, run_compose};
 use flatten::flatten_command;
 pub use flatten::run_flatten;
 use lookup::lookup_command;
@@ -85,6 +88,11 @@ pub enum Task<'a> {
     },
     /// `scripts`: list the scripts that a stack trace names.
     Scripts,
+    /// `compose [--relative] [--thin] [--used]`: write one map for a chain of maps.
+    Compose {
+        /// How it is written.
+        options: ComposeOptions,
+    },
 }
 
 /// The end of the help: the programs over files, which have command lines of their own.
@@ -122,7 +130,8 @@ fn command<'a>(alloc: Global) -> Result<Command<'a>, AllocError>
     let command = with(command, flatten_command(alloc)?)?;
     let command = with(command, lookup_command(alloc)?)?;
     let command = with(command, translate_command(alloc)?)?;
-    with(command, scripts_command(alloc))
+    let command = with(command, scripts_command(alloc))?;
+    with(command, compose_command(alloc)?)
 }
 
 /// The task of the command with this name and these matches.
@@ -155,6 +164,13 @@ fn task_named<'a>(name: &str, inner: &ArgMatches<'a>) -> Option<Task<'a>>
             hide: is_set(inner, "hide-ignored"),
         }),
         "scripts" => Some(Task::Scripts),
+        "compose" => Some(Task::Compose {
+            options: ComposeOptions {
+                relative: is_set(inner, "relative"),
+                thin: is_set(inner, "thin"),
+                used: is_set(inner, "used"),
+            },
+        }),
         _ => None,
     }
 }
@@ -252,5 +268,6 @@ pub fn run<R: Read, W: Write>(
         ),
         Task::Translate { mode, hide } => run_translate_by(alloc, mode, hide, reader, writer),
         Task::Scripts => run_scripts(alloc, reader, writer),
+        Task::Compose { options } => run_compose(alloc, options, reader, writer),
     }
 }

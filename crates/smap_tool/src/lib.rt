@@ -29,6 +29,7 @@ mod fault_line;
 mod header;
 mod input;
 pub mod laws;
+mod links;
 mod map_run;
 mod numbers;
 mod outcome;
@@ -38,8 +39,8 @@ mod words;
 
 pub use bundle::Bundle;
 pub use commands::{
-    Task, run, run_check, run_flatten, run_lookup, run_respell, run_scripts, run_tidy,
-    run_translate, run_translate_by, task_of,
+    ComposeOptions, Task, run, run_check, run_compose, run_flatten, run_lookup, run_respell,
+    run_scripts, run_tidy, run_translate, run_translate_by, task_of,
 };
 pub use entries::read_bundle;
 pub use fault::{BundleFault, EntryFault, Refusal};

@@ -30,11 +30,3 @@ pub(crate) fn lists<T: Copy + Debug + PartialEq, E: Drop>(
 pub(crate) fn makes<E: Drop>(rt: &impl Abort, made: Result<Vec<u8>, E>, expected: &str) {
     lists(rt, made, expected.as_bytes());
 }
-
-/// Asserts that there is a text, and which.
-pub(crate) fn finds<E: Drop>(rt: &impl Abort, found: Result<Option<Vec<u8>>, E>, expected: &str) {
-    match found {
-        Ok(Some(bytes)) => equal(rt, bytes.as_slice(), expected.as_bytes()),
-        _ => holds(rt, false),
-    }
-}

@@ -5,6 +5,7 @@ use Rattle.smap_frames.specs.Reading.{frame_of}
 use Rattle.smap_record.specs.Record.{no_labels, Entry, Mapping}
 use Rattle.smap_trace.specs.Lookup.{mapping_at}
 use Rattle.smap_trace.specs.Translation.{Script, line_translation, translation}
+use Rattle.smap_trace.specs.Unnamed.{named_frame}
 use Rattle.smap_trace.specs.Views.{counts_of}
 
 -- ---- the trace of the worked example
@@ -83,3 +84,33 @@ ties = refl
 
 before_all : mapping_at (placed false 0 0 1 0 ∷ placed false 0 0 2 0 ∷ placed false 1 5 3 0 ∷ []) 1 4 ≡ None
 before_all = refl
+
+-- ---- frames that name no script
+
+unnamed : named_frame (codes "u") (codes "f@1:2\r") ≡ Some (codes "f@u:1:2\r")
+unfolding digits frame_of
+unnamed = refl
+
+without_function : named_frame (codes "u") (codes "@1:2") ≡ Some (codes "@u:1:2")
+unfolding digits frame_of
+without_function = refl
+
+of_code : named_frame (codes "u") (codes "global code@1:2") ≡ Some (codes "global code@u:1:2")
+unfolding digits frame_of
+of_code = refl
+
+in_text : named_frame (codes "u") (codes "from f@1:2") ≡ None
+unfolding digits frame_of
+in_text = refl
+
+of_a_script : named_frame (codes "u") (codes "f@v:1:2") ≡ None
+unfolding digits frame_of
+of_a_script = refl
+
+an_address : named_frame (codes "u") (codes "f@1.2") ≡ None
+unfolding digits frame_of
+an_address = refl
+
+of_no_script : named_frame [] (codes "f@1:2") ≡ None
+unfolding digits frame_of
+of_no_script = refl

@@ -26,3 +26,6 @@ pub mod StartsLemmas
 pub mod TableLemmas
 pub mod TallyLemmas
 mod EndedLemmas
+pub mod NameLemmas
+pub mod KnownSourceLemmas
+pub mod KnownMapLemmas

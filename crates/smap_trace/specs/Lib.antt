@@ -4,10 +4,13 @@ pub mod Counting
 pub mod Cuts
 pub mod Cutting
 pub mod Ends
+pub mod Known
 pub mod Laws
 pub mod LineParts
 pub mod LineStarts
 pub mod Lookup
+pub mod Names
+pub mod NamesView
 pub mod Naming
 pub mod OccurrenceView
 pub mod Pieces
@@ -17,4 +20,5 @@ pub mod Streaming
 pub mod Table
 pub mod TraceLaws
 pub mod Translation
+pub mod Unnamed
 pub mod Views

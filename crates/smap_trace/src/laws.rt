@@ -1,6 +1,7 @@
 //! Laws about the definitions. Each is the contract of a function that does nothing.
 ghost use Rattle.smap_trace.specs.Ends.{NothingIsPast, WithinAllStays};
 ghost use Rattle.smap_trace.specs.Laws.{CutIsComputed, FramesAreFoundAnywhere, LinesAreCounted};
+ghost use Rattle.smap_trace.specs.Known.{OneMapOfAUrl};
 ghost use Rattle.smap_trace.specs.Laws.{LookupIsComputed, OneCut, PiecesAreTheLine};
 
 pub use smap_frames::laws::{frames_are_computed, one_reading};
@@ -47,4 +48,9 @@ pub fn pieces_are_the_line()
 /// in frames or anywhere.
 pub fn frames_are_found_anywhere()
     ensures { FramesAreFoundAnywhere }
+{}
+
+/// Where queries count, frames with one URL are in the script of one map.
+pub fn one_map_of_a_url()
+    ensures { OneMapOfAUrl }
 {}

@@ -8,12 +8,14 @@
 
 mod anywhere;
 mod error;
+mod known;
 pub mod laws;
 mod line_parts;
 mod line_starts;
 mod lines;
 mod lookups;
 mod match_mode;
+mod names;
 mod naming;
 mod occurrences;
 mod outcome;
@@ -22,13 +24,16 @@ mod searching;
 mod streaming;
 mod table;
 pub mod trace_laws;
+mod unnamed;
 
 pub use error::TraceError;
+pub use known::KnownFunctions;
 pub use line_parts::{LinePosition, line_positions};
 pub use line_starts::LineStarts;
 pub use lines::{is_hidden, translate_line, translate_line_by, translate_line_in};
 pub use lookups::{find, find_in, lookup, lookup_in};
 pub use match_mode::MatchMode;
+pub use names::{RenamedFrame, rename_frame};
 pub use naming::{NamedScripts, named_scripts};
 pub use occurrences::Occurrence;
 pub use outcome::{Counts, LineOutcome};
@@ -37,3 +42,4 @@ pub use searching::{Positions, search};
 pub use smap_frames::{Frame, frame};
 pub use streaming::{translate, translate_by, translate_in};
 pub use table::{HasMap, Scripts};
+pub use unnamed::{LineMode, named_frame, translate_alone_in};

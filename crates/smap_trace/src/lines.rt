@@ -73,7 +73,7 @@ fn push_translated(
 
 /// Appends the translation of a line whose frame was found, and whose script has this map; or leaves the
 /// bytes as they were.
-fn translate_frame(
+pub(crate) fn translate_frame(
     line: &[u8],
     frame: &Frame,
     feed: &[u8],

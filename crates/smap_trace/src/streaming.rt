@@ -115,7 +115,7 @@ fn finish<T: Translator, W: Write>(
 }
 
 /// Reads to the end, and writes the translation of the lines.
-fn translate_with<T: Translator, R: Read, W: Write>(
+pub(crate) fn translate_with<T: Translator, R: Read, W: Write>(
     alloc: Global,
     lines: &T,
     reader: &mut Device<R>,

@@ -25,10 +25,12 @@ use Rattle.smap_logs.specs.Logs.{IsAll}
 use Rattle.smap_logs.specs.Naming.{AreIn, asked_in, frames_of, names_of, others_if, others_in, others_in_line}
 use Rattle.smap_logs.specs.Naming.{others_of, without}
 use Rattle.smap_trace_run.specs.Written.{AreAmong, AreEndsAmong, AreLogs, AreNamed, IsLog, IsOfLogs, asked_by}
-use Rattle.smap_trace_run.specs.Written.{asked_of}
+use Rattle.smap_trace_run.specs.Written.{asked_for, asked_of}
+use Rattle.smap_trace_run.specs.Alone.{as_read}
 use Rattle.smap_logs.specs.declared.naming.Names.{Names}
 use Rattle.smap_trace_run.specs.declared.tracing.Job.{Job}
 use Rattle.smap_logs.proofs.LogLemmas.{handed_lines}
+use Rattle.smap_trace_run.proofs.AloneLemmas.{as_read-append, as_read-whole}
 use Rattle.smap_trace_run.proofs.NamedLemmas.{is_whole}
 use Rattle.smap_trace_run.proofs.SettledLemmas.{none_chosen}
 
@@ -93,30 +95,43 @@ asked_back : (anywhere : Bool) (whole more : List ℕ) → IsWhole whole
 asked_back anywhere whole more is = rw (urls_of-append whole more is, others_in-append whole more is)
     (back_in anywhere (urls_of whole) (urls_of more) (others_in whole) (others_in more))
 
+-- the same of what is looked for
+sought_front : (job : Job) (whole more : List ℕ) → IsWhole whole
+    → AreIn (asked_for job whole) (asked_for job (whole ++ more))
+sought_front job whole more is = rw (as_read-append job.wanted whole more is)
+    (asked_front job.anywhere (as_read job.wanted whole) (as_read job.wanted more)
+    (as_read-whole job.wanted whole is))
+
+sought_back : (job : Job) (whole more : List ℕ) → IsWhole whole
+    → AreIn (asked_for job more) (asked_for job (whole ++ more))
+sought_back job whole more is = rw (as_read-append job.wanted whole more is)
+    (asked_back job.anywhere (as_read job.wanted whole) (as_read job.wanted more)
+    (as_read-whole job.wanted whole is))
+
 -- ---- a log that is read block by block
 
 -- all that is left has such names alone
-abbrev pub AreAllAmong : Bool → Option (List (List ℕ)) → Option (List ℕ) → Type 0
-AreAllAmong anywhere asked left = (text : List ℕ) → IsAll left text → AreAmong asked (asked_in anywhere text)
+abbrev pub AreAllAmong : Job → Option (List (List ℕ)) → Option (List ℕ) → Type 0
+AreAllAmong job asked left = (text : List ℕ) → IsAll left text → AreAmong asked (asked_for job text)
 
-goes_on : (anywhere : Bool) (asked : Option (List (List ℕ))) (rest next : Option (List ℕ)) (part : List ℕ)
+goes_on : (job : Job) (asked : Option (List (List ℕ))) (rest next : Option (List ℕ)) (part : List ℕ)
     → ((more : List ℕ) → next ≡ Some more → IsWhole part ⊎ (more ≡ [])) → Consumes rest next part
-    → AreAllAmong anywhere asked rest
-    → AreAllAmong anywhere asked next × AreAmong asked (asked_in anywhere part)
-goes_on anywhere asked None next part apart taken all = (λ text is. all text tt, all part tt)
-goes_on anywhere asked (Some x) None part apart taken all = absurd taken
-goes_on anywhere asked (Some x) (Some y) part apart taken all = elim (apart y refl) [
+    → AreAllAmong job asked rest
+    → AreAllAmong job asked next × AreAmong asked (asked_for job part)
+goes_on job asked None next part apart taken all = (λ text is. all text tt, all part tt)
+goes_on job asked (Some x) None part apart taken all = absurd taken
+goes_on job asked (Some x) (Some y) part apart taken all = elim (apart y refl) [
   | inl whole ↦ (
-    λ text is. subst (λ (t : List ℕ). AreAmong asked (asked_in anywhere t)) is
-        (λ n has. all (part ++ y) taken n (asked_back anywhere part y whole n has)),
-    λ n has. all (part ++ y) taken n (asked_front anywhere part y whole n has),
+    λ text is. subst (λ (t : List ℕ). AreAmong asked (asked_for job t)) is
+        (λ n has. all (part ++ y) taken n (sought_back job part y whole n has)),
+    λ n has. all (part ++ y) taken n (sought_front job part y whole n has),
   )
-  | inr none ↦ let now : AreAmong asked (asked_in anywhere part) =
-      subst (λ (t : List ℕ). AreAmong asked (asked_in anywhere t))
+  | inr none ↦ let now : AreAmong asked (asked_for job part) =
+      subst (λ (t : List ℕ). AreAmong asked (asked_for job t))
       (ap (λ (t : List ℕ). part ++ t) none ∙ append-nil part)
       (all (part ++ y) taken) in (
-        λ text is. subst (λ (t : List ℕ). AreAmong asked (asked_in anywhere t)) (sym none ∙ is)
-            (λ n has. now n (asked_front anywhere [] part (inl refl) n has)),
+        λ text is. subst (λ (t : List ℕ). AreAmong asked (asked_for job t)) (sym none ∙ is)
+            (λ n has. now n (sought_front job [] part (inl refl) n has)),
         now,
       )
 ]
@@ -136,9 +151,9 @@ pub next_asked : (held : Held) (job : Job) (rest left : Option (List ℕ)) (bloc
     → Consumes rest (cond ended (option_map (λ bytes. []) left) (prepend_known (open_line block) left))
     (cond ended block (whole_lines block)) → IsOfLogs held job rest
     → IsOfLogs held job (cond ended (option_map (λ bytes. []) left) (prepend_known (open_line block) left))
-    × AreAmong (asked_by held job) (asked_in job.anywhere (cond ended block (whole_lines block)))
+    × AreAmong (asked_by held job) (asked_for job (cond ended block (whole_lines block)))
 next_asked held job rest left block ended taken all =
-    goes_on job.anywhere (asked_by held job) rest
+    goes_on job (asked_by held job) rest
     (cond ended (option_map (λ bytes. []) left) (prepend_known (open_line block) left))
     (cond ended block (whole_lines block)) (parts_apart block left ended) taken all
 
@@ -214,33 +229,32 @@ in_one f (p ∷ paths) path name there has = elim (Contains-append_cases (p ∷ 
       | inr is ↦ is
     ]
 
-path_asked : (held : Held) (anywhere : Bool) (paths : List (List ℕ)) (path text : List ℕ)
+path_asked : (held : Held) (job : Job) (paths : List (List ℕ)) (path text : List ℕ)
     → Contains paths path
-    → IsHeld held path text → AreAmong (asked_of held anywhere paths) (asked_in anywhere text)
-path_asked None anywhere paths path text there is name has = tt
-path_asked (Some held) anywhere [] path text there is name has = tt
-path_asked (Some held) anywhere (p ∷ paths) path text there is name has =
-    in_one (λ (q : List ℕ). asked_in anywhere (unwrap_or (held q) [])) (p ∷ paths) path name there
-    (subst (λ (o : Option (List ℕ)). Contains (asked_in anywhere (unwrap_or o [])) name) (sym is) has)
+    → IsHeld held path text → AreAmong (asked_of held job paths) (asked_for job text)
+path_asked None job paths path text there is name has = tt
+path_asked (Some held) job [] path text there is name has = tt
+path_asked (Some held) job (p ∷ paths) path text there is name has =
+    in_one (λ (q : List ℕ). asked_for job (unwrap_or (held q) [])) (p ∷ paths) path name there
+    (subst (λ (o : Option (List ℕ)). Contains (asked_for job (unwrap_or o [])) name) (sym is) has)
 
 pub own_logs : (held : Held) (job : Job) (paths : List (Bor (List ℕ))) → paths ≡ job.wanted.logs.items
     → AreLogs held job paths
 own_logs held job paths is k d lt text holds =
     let now = λ (p : Bor (List ℕ)). p.now in
-    path_asked held job.anywhere (map now job.wanted.logs.items) (get_or paths k d).now text
+    path_asked held job (map now job.wanted.logs.items) (get_or paths k d).now text
     (subst (λ (ps : List (Bor (List ℕ))). Contains (map now ps) (get_or paths k d).now) is
     (mapped_among now paths k d lt)) holds
 
-no_paths : (held : Held) (anywhere : Bool) (names : List (List ℕ))
-    → AreAmong (asked_of held anywhere []) names
-no_paths None anywhere names n has = tt
-no_paths (Some held) anywhere names n has = tt
+no_paths : (held : Held) (job : Job) (names : List (List ℕ)) → AreAmong (asked_of held job []) names
+no_paths None job names n has = tt
+no_paths (Some held) job names n has = tt
 
 -- nothing is said of standard input
 pub input_asked : (held : Held) (job : Job) (names : List (List ℕ)) → job.wanted.logs.items ≡ []
     → AreAmong (asked_by held job) names
-input_asked held job names is = subst (λ (ps : List (Bor (List ℕ))). AreAmong (asked_of held job.anywhere
-    (map (λ (p : Bor (List ℕ)). p.now) ps)) names) (sym is) (no_paths held job.anywhere names)
+input_asked held job names is = subst (λ (ps : List (Bor (List ℕ))). AreAmong (asked_of held job
+    (map (λ (p : Bor (List ℕ)). p.now) ps)) names) (sym is) (no_paths held job names)
 
 -- ---- files that are opened
 

@@ -1,3 +1,4 @@
+pub mod AloneLemmas
 pub mod AskedLemmas
 pub mod NamedLemmas
 pub mod PartsLemmas

@@ -173,8 +173,8 @@ logs_worse held job worst worse (path ∷ paths) before after le all = (
     left = all.1.left;
     is_begun = all.1.is_begun;
     gives = all.1.gives;
-    traced = λ plain. text_weaker held job worst worse (IsNameOf held path) (IsNameOf held path) all.1.left
-        all.1.begun all.0 le (λ name of. of) (all.1.traced plain);
+    traced = λ plain. text_weaker held job worst worse (IsNameOf held job.wanted path)
+        (IsNameOf held job.wanted path) all.1.left all.1.begun all.0 le (λ name of. of) (all.1.traced plain);
   },
   logs_worse held job worst worse paths all.0 after le all.2,
 )
@@ -182,7 +182,7 @@ logs_worse held job worst worse (path ∷ paths) before after le all = (
 pub one_log : (held : Held) (job : Job) (worst : ℕ) (path : List ℕ)
     (left before begun after : Option (List ℕ))
     → IsBegun before begun → GivesHeld held path left
-    → IsTracedTextIn held job worst (IsNameOf held path) left begun after
+    → IsTracedTextIn held job worst (IsNameOf held job.wanted path) left begun after
     → IsTracedLog held job worst path before after
 one_log held job worst path left before begun after is gives traced = record {
   begun = begun;

@@ -11,7 +11,9 @@ use Rattle.smap_map_finder.specs.ChosenView.{IsLeftName}
 use Rattle.smap_map_finder.specs.ChosenView.{IsSettledIn, no_choices}
 use Rattle.smap_map_finder.proofs.GrowthLemmas.{settled_grown}
 use Rattle.smap_trace.specs.Naming.{urls_of}
-use Rattle.smap_logs.specs.Naming.{AreIn, HaveNames, frames_of}
+use Rattle.smap_logs.specs.Naming.{AreIn, frames_of}
+use Rattle.smap_trace_run.specs.Alone.{as_read}
+use Rattle.smap_trace_run.specs.Named.{HaveNames}
 use Rattle.smap_trace_run.specs.Written.{AreSettled, AreSettledLogs, IsBegun, IsNameOf, IsTracedLog}
 use Rattle.smap_trace_run.specs.Written.{IsTracedTextIn}
 use Rattle.smap_logs.specs.declared.naming.Names.{Names}
@@ -52,7 +54,7 @@ lines_settled held w choices names urls (Err e) are settled = tt
 
 -- What was named of logs is settled.
 pub settled_logs : (held : Held) (job : Job) (choices : Choices) (paths : List (Bor (List ℕ))) (names : Names)
-    → HaveNames held paths names → AreSettled held job.wanted choices (Contains (frames_of names))
+    → HaveNames held job.wanted paths names → AreSettled held job.wanted choices (Contains (frames_of names))
     → AreSettledLogs held job.wanted choices paths
 settled_logs None job choices paths names have settled k d lt =
     record { each = λ name known. absurd known }
@@ -63,13 +65,14 @@ settled_logs (Some held) job choices paths names have settled k d lt =
           let same : known.0 ≡ has.text =
           subst (λ (l : Option (List ℕ)). IsAll l has.text) (sym has.gives.0 ∙ known.1) has.all in
           settled.each name
-          (has.frames name (subst (λ (t : List ℕ). Contains (urls_of t) name) same known.2));
+          (has.frames name
+          (subst (λ (t : List ℕ). Contains (urls_of (as_read job.wanted t)) name) same known.2));
     }
 
 pub first_settled : (held : Held) (job : Job) (choices : Choices) (paths : List (Bor (List ℕ)))
     (path : Bor (List ℕ))
     → paths ≡ path ∷ [] → AreSettledLogs held job.wanted choices paths
-    → AreSettled held job.wanted choices (IsNameOf held path.now)
+    → AreSettled held job.wanted choices (IsNameOf held job.wanted path.now)
 first_settled held job choices paths path is all =
     subst (λ (ps : List (Bor (List ℕ))). AreSettledLogs held job.wanted choices ps) is all 0 path
     (omega arith)
@@ -82,6 +85,6 @@ pub followed_log : (held : Held) (job : Job) (worst : ℕ) (path : List ℕ)
     → IsTracedLog held job worst path before after
 followed_log held job worst path left before begun after is gives traced =
     one_log held job worst path left before begun after is gives
-    (λ plain. text_weaker held job worst worst (λ name. ⊤) (IsNameOf held path) left begun after
+    (λ plain. text_weaker held job worst worst (λ name. ⊤) (IsNameOf held job.wanted path) left begun after
     (omega arith) (λ name known. tt)
     (traced plain))

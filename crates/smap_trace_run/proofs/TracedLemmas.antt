@@ -14,12 +14,14 @@ use Rattle.smap_trace_run.specs.Written.{AreNamed, AreTraced, AreSettled, IsName
 use Rattle.smap_trace_run.specs.Written.{IsBegun, IsTracedFront, IsTracedIn, IsTracedLog, IsTracedTextIn}
 use Rattle.smap_trace_run.specs.Written.{IsTranslatedIn}
 use Rattle.smap_logs.specs.Logs.{IsAll}
+use Rattle.smap_trace_run.specs.Alone.{as_read}
 
 pub traced : (held : Held) (job : Job) (chosen : Choices) (Sought : List ℕ → Type 0)
     (left before after : Option (List ℕ)) → AreNamed held job chosen
     → ((text : List ℕ) → IsAll left text
-    → AreSettled held job.wanted chosen (λ name. Contains (urls_of text) name × Sought name))
-    → IsTranslatedIn chosen job.style left before after
+    → AreSettled held job.wanted chosen
+    (λ name. Contains (urls_of (as_read job.wanted text)) name × Sought name))
+    → IsTranslatedIn chosen job left before after
     → IsTracedIn held job chosen.worst Sought left before after
 traced held job chosen Sought left before after all settled is = λ plain.
     let by = is plain in
@@ -35,37 +37,38 @@ traced held job chosen Sought left before after all settled is = λ plain.
     }
 
 of_log : (held : Held) (job : Job) (choices : Choices) (path text : List ℕ)
-    → AreSettled held job.wanted choices (IsNameOf held path)
-    → AreSettled held job.wanted choices (λ name. Contains (urls_of text) name × IsNameOf held path
-    name)
+    → AreSettled held job.wanted choices (IsNameOf held job.wanted path)
+    → AreSettled held job.wanted choices
+    (λ name. Contains (urls_of (as_read job.wanted text)) name × IsNameOf held job.wanted path name)
 of_log held job choices path text settled =
     record { each = λ name both. settled.each name both.1 }
 
 pub traced_log : (held : Held) (job : Job) (chosen : Choices) (path : List ℕ)
     (left before begun after : Option (List ℕ)) → AreNamed held job chosen
-    → AreSettled held job.wanted chosen (IsNameOf held path)
+    → AreSettled held job.wanted chosen (IsNameOf held job.wanted path)
     → IsBegun before begun → GivesHeld held path left
-    → IsTranslatedIn chosen job.style left begun after
+    → IsTranslatedIn chosen job left begun after
     → IsTracedLog held job chosen.worst path before after
 traced_log held job chosen path left before begun after all settled is gives translated =
     one_log held job chosen.worst path left before begun after is gives
-    (λ plain. one_part held job chosen.worst (IsNameOf held path) left begun after
-    (traced held job chosen (IsNameOf held path) left begun after all
+    (λ plain. one_part held job chosen.worst (IsNameOf held job.wanted path) left begun after
+    (traced held job chosen (IsNameOf held job.wanted path) left begun after all
     (λ text is. of_log held job chosen path text settled)
     translated plain))
 
 pub traced_front : {A E : Type 0} (held : Held) (job : Job) (chosen : Choices) (path : List ℕ)
     (size : ℕ) (left front before after : Option (List ℕ)) (result : Result A E) → AreNamed held job chosen
-    → AreSettled held job.wanted chosen (IsNameOf held path) → HasSize held path size
+    → AreSettled held job.wanted chosen (IsNameOf held job.wanted path) → HasSize held path size
     → front ≡ option_map (take size) left
-    → OnOk result (IsTranslatedIn chosen job.style front before after)
+    → OnOk result (IsTranslatedIn chosen job front before after)
     → OnOk result (IsTracedFront held job chosen.worst path left before after)
 traced_front held job chosen path size left front before after (Ok a) all settled has is translated = (
   size,
   has,
-  subst (λ (f : Option (List ℕ)). IsTracedTextIn held job chosen.worst (IsNameOf held path) f before after) is
-      (λ plain. one_part held job chosen.worst (IsNameOf held path) front before after
-      (traced held job chosen (IsNameOf held path) front before after all
+  subst (λ (f : Option (List ℕ)).
+      IsTracedTextIn held job chosen.worst (IsNameOf held job.wanted path) f before after) is
+      (λ plain. one_part held job chosen.worst (IsNameOf held job.wanted path) front before after
+      (traced held job chosen (IsNameOf held job.wanted path) front before after all
       (λ text is. of_log held job chosen path text settled)
       translated plain)),
 )
@@ -73,13 +76,13 @@ traced_front held job chosen path size left front before after (Err e) all settl
 
 pub traced_lines : (held : Held) (job : Job) (chosen : Choices) (lines : List ℕ)
     (before after : Option (List ℕ)) → AreNamed held job chosen
-    → AreSettled held job.wanted chosen (Contains (urls_of lines))
-    → IsTranslatedIn chosen job.style (Some lines) before after
+    → AreSettled held job.wanted chosen (Contains (urls_of (as_read job.wanted lines)))
+    → IsTranslatedIn chosen job (Some lines) before after
     → IsTracedIn held job chosen.worst (λ name. ⊤) (Some lines) before after
 traced_lines held job chosen lines before after all settled translated =
     traced held job chosen (λ name. ⊤) (Some lines) before after all (λ text is. record {
       each = λ name both. settled.each name
-          (subst (λ (t : List ℕ). Contains (urls_of t) name) (sym is) both.0);
+          (subst (λ (t : List ℕ). Contains (urls_of (as_read job.wanted t)) name) (sym is) both.0);
     }) translated
 
 pub one_more : (held : Held) (job : Job) (worst : ℕ) (paths : List (List ℕ)) (path : List ℕ)

@@ -1,3 +1,5 @@
+pub mod Alone
+pub mod Named
 pub mod OutputView
 pub mod Running
 pub mod Runs

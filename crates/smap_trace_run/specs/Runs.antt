@@ -105,6 +105,7 @@ pub record IsJobOf (asked : TraceWords) (job : Job) : Type 0 where
   pub queries : job.style.mode.ignore_query ≡ false
   pub hide : job.style.hide ≡ has asked.options (codes "hide-ignored")
   pub context : job.style.context ≡ number asked.options (codes "context")
+  pub names : job.style.names ≡ has asked.options (codes "names")
   pub prefixes : pairs_of job.style.prefixes.now ≡ prefixes_of asked.prefixes.items
 
 -- These are the maps and logs that the arguments of these words name, one map for each script; the URLs of

@@ -1,6 +1,7 @@
 //! What is said at the end of a run: how many frames stayed, and why.
 ghost use Rattle.std.specs.Prelude.{◌≡◌};
 
+use crate::alone::LinesRead;
 use crate::program::STDIN;
 use crate::tracing::{Run, open_log};
 use smap_logs::{Log, Names};
@@ -18,7 +19,8 @@ fn add_missed_lines<E: Eprint + AllocGlobal, D: Disk>(
     missed: &mut Counted,
 ) -> Result<(), AllocError> {
     let (scripts, hide) = (run.finder.scripts(), run.job.style.hide);
-    for line in lines.split_inclusive(|b| *b == b'\n') {
+    let read = LinesRead::of(run.host.alloc(), &run.job.wanted, lines)?;
+    for line in read.text().split_inclusive(|b| *b == b'\n') {
         if *left == 0 {
             return Ok(());
         }
@@ -116,14 +118,10 @@ impl<E: Eprint + AllocGlobal, D: Disk> Run<'_, E, D> {
         self.count_frames()?;
         self.frames.are_followed = self.job.anywhere;
         if self.lacks_missed() {
-            let (host, job, scripts) = (self.host, self.job, self.finder.scripts());
-            add_missed(
-                host.alloc(),
-                lines,
-                scripts,
-                job.style.hide,
-                &mut self.frames.missed,
-            )?;
+            let (alloc, job) = (self.host.alloc(), self.job);
+            let read = LinesRead::of(alloc, &job.wanted, lines)?;
+            let (scripts, hide) = (self.finder.scripts(), job.style.hide);
+            add_missed(alloc, read.text(), scripts, hide, &mut self.frames.missed)?;
         }
         Ok(())
     }

@@ -4,6 +4,7 @@
 //! said at the end is `smap_trace_summary`'s.
 #![tactic(auto)]
 
+mod alone;
 mod decorating;
 mod ending;
 mod listing;

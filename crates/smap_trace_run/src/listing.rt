@@ -1,4 +1,5 @@
 //! `--list`: the scripts that a log names.
+use crate::alone::LinesRead;
 use crate::output::Output;
 use crate::tracing::{Job, open_log, open_names, stop_if_strict};
 use indexmap::IndexMap;
@@ -31,13 +32,22 @@ impl Listed {
             self.looked.line(line);
         }
     }
+
+    /// Adds what lines have.
+    fn add(&mut self, alloc: Global, wanted: &Wanted<'_>, lines: &[u8]) -> Result<(), AllocError> {
+        let read = LinesRead::of(alloc, wanted, lines)?;
+        let lines = read.text();
+        self.names.add_frames(alloc, lines)?;
+        self.look(lines);
+        Ok(())
+    }
 }
 
 /// Adds what a log has.
 fn list_log<E: Eprint + AllocGlobal, D: Disk, R: Read>(
     host: &Host<'_, E, D>,
+    job: &Job<'_>,
     reader: R,
-    verbose: bool,
     listed: &mut Listed,
 ) -> Result<(), Stop>
 where
@@ -52,11 +62,10 @@ where
         }
         let lines = log.lines();
         if is_first {
-            let _ = hint_at_start(host, lines, verbose);
+            let _ = hint_at_start(host, lines, job.how.verbose);
             is_first = false;
         }
-        listed.names.add_frames(alloc, lines)?;
-        listed.look(lines);
+        listed.add(alloc, &job.wanted, lines)?;
     }
     Err(host.fail(3, "cannot read the log"))
 }
@@ -264,11 +273,11 @@ where
     I: Drop,
 {
     if job.wanted.logs.is_empty() {
-        return list_log(host, input, job.how.verbose, listed);
+        return list_log(host, job, input, listed);
     }
     for path in &job.wanted.logs {
         let log = open_log(host, path)?;
-        list_log(host, log, job.how.verbose, listed)?;
+        list_log(host, job, log, listed)?;
     }
     Ok(())
 }
@@ -322,5 +331,7 @@ where
     I: Drop,
 {
     let mut finder = Finder::new(&*host, job.how, &job.wanted)?;
-    list_with(&*host, &*job, input, &mut finder, output)
+    let answer = list_with(&*host, &*job, input, &mut finder, output);
+    drop(finder);
+    answer
 }

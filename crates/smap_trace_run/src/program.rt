@@ -152,7 +152,10 @@ where
         return list(host, job, input.reader, output);
     }
     let mut run = Run::new(&*host, &*job)?;
-    run.trace(input, output)
+    let answer = run.trace(input, output);
+    // By a call, which is proved by itself: a run holds much.
+    drop(run);
+    answer
 }
 
 /// Refuses a log that can't be had, and says what is waited for. Positions are the log themselves.
@@ -317,6 +320,7 @@ fn job_of<'p, 'a: 'p, E: Eprint + AllocGlobal, D: Disk>(
             hide: options.has("hide-ignored"),
             prefixes,
             context: options.number("context"),
+            names: options.has("names"),
         },
     })
 }

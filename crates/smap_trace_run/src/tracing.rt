@@ -1,18 +1,21 @@
 //! Logs translated: files, whose names are all looked for first, and streams, as they come.
-ghost use Rattle.std.specs.Prelude.{◌≡◌, [], IfOk, OnOk, Some, cond, map, ⊤};
+ghost use Rattle.std.specs.Prelude.{◌≡◌, ◌++◌, [], IfOk, OnOk, Some, cond, map, ⊤};
 ghost use Rattle.std.specs.List.{Contains};
 ghost use Rattle.std.specs.Io.Take.{take_remaining};
 ghost use Rattle.smap_system.specs.Held.{GivesHeld, HasSize};
 ghost use Rattle.smap_map_finder.specs.ChosenView.{AreChosen, KeepEnds, no_choices};
 ghost use Rattle.smap_map_finder.specs.Finding.{IsSameSearch};
 ghost use Rattle.smap_trace.specs.Naming.{urls_of};
-ghost use Rattle.smap_logs.specs.Naming.{AddsNames, HaveNames, asked_in, frames_of, names_of};
+ghost use Rattle.smap_logs.specs.Naming.{AreNamesOf, AreSame, frames_of, names_of, others_if, others_of};
+ghost use Rattle.smap_trace_run.specs.Alone.{as_read};
+ghost use Rattle.smap_trace_run.specs.Named.{AddsNames, HaveNames};
 ghost use Rattle.smap_trace_run.specs.OutputView.{contents_of};
 ghost use Rattle.smap_trace_run.specs.Running.{IsRunning, IsSameRun};
 ghost use Rattle.smap_trace_run.specs.Written.{AreTraced, HaveSizes, IsTracedFront, IsTracedIn, IsTracedLog};
-ghost use Rattle.smap_trace_run.specs.Written.{AreAmong, AreLogs, IsLog, IsOfLogs, asked_by};
+ghost use Rattle.smap_trace_run.specs.Written.{AreAmong, AreLogs, IsLog, IsOfLogs, asked_by, asked_for};
 ghost use Rattle.smap_trace_run.specs.Written.{AreSettled, AreSettledLogs, IsNameOf, IsTracedTextIn};
 
+use crate::alone::LinesRead;
 use crate::decorating::Style;
 use crate::output::Output;
 use crate::translating::Tally;
@@ -20,6 +23,7 @@ use smap_logs::{Log, Names, has_control, look, names_in};
 use smap_map_files::Wanted;
 use smap_map_finder::{Finder, How};
 use smap_system::{Disk, Host, Stop};
+use smap_trace::KnownFunctions;
 use smap_trace_summary::{Frames, Given, has_escaped_url, hint_at_start};
 use std::alloc::{AllocError, Global};
 use std::io::{Read, Take, Write};
@@ -62,6 +66,8 @@ pub(crate) struct Run<'a, E, D: Disk> {
     pub(crate) host: &'a Host<'a, E, D>,
     pub(crate) job: &'a Job<'a>,
     pub(crate) finder: Finder<'a, E, D>,
+    /// The functions of sources, where frames get their names.
+    pub(crate) known: KnownFunctions,
     /// The names of frames that logs have and that aren't counted among the frames yet.
     pub(crate) names: Names,
     pub(crate) given: Given,
@@ -182,6 +188,40 @@ fn open_front<E: Eprint + AllocGlobal, D: Disk>(
     Ok(log.take(size))
 }
 
+/// Adds the names that lines have.
+fn add_names<E: Eprint + AllocGlobal, D: Disk>(
+    host: &Host<'_, E, D>,
+    job: &Job<'_>,
+    lines: &[u8],
+    start: &mut Start,
+    names: &mut Names,
+) -> Result<(), AllocError>
+    ensures frames { OnOk result (AreSame (frames_of names.new)
+        (frames_of names.old ++ urls_of (as_read job.now.wanted lines.now))) }
+    ensures others { OnOk result (AreSame (others_of names.new) (others_of names.old
+        ++ others_if job.now.anywhere (frames_of names.new) (as_read job.now.wanted lines.now))) }
+{
+    let read = LinesRead::of(host.alloc(), &job.wanted, lines)?;
+    let lines = read.text();
+    start.note(host, job, lines);
+    names.add_lines(host.alloc(), lines, job.anywhere)
+}
+
+/// The names that lines have.
+fn names_of_lines<E: Eprint + AllocGlobal, D: Disk>(
+    host: &Host<'_, E, D>,
+    job: &Job<'_>,
+    lines: &[u8],
+    start: &mut Start,
+) -> Result<Names, AllocError>
+    ensures { IfOk result (AreNamesOf job.now.anywhere (as_read job.now.wanted lines.now)) }
+{
+    let read = LinesRead::of(host.alloc(), &job.wanted, lines)?;
+    let lines = read.text();
+    start.note(host, job, lines);
+    names_in(host.alloc(), lines, job.anywhere)
+}
+
 /// Adds the names that a log has.
 fn name_log<E: Eprint + AllocGlobal, D: Disk, R: Read>(
     host: &Host<'_, E, D>,
@@ -194,7 +234,7 @@ where
     R: Drop,
     requires asked { IsOfLogs (D.held host.now.disk.now) job.now (R.remaining reader) }
     requires names { AreAmong (asked_by (D.held host.now.disk.now) job.now) (names_of names.old) }
-    ensures names { OnOk result (AddsNames (R.remaining reader) names.old names.new) }
+    ensures names { OnOk result (AddsNames job.now.wanted (R.remaining reader) names.old names.new) }
     ensures asked { OnOk result
         (AreAmong (asked_by (D.held host.now.disk.now) job.now) (names_of names.new)) }
 {
@@ -204,9 +244,7 @@ where
         if !more {
             return Ok(());
         }
-        let lines = log.lines();
-        start.note(host, job, lines);
-        names.add_lines(host.alloc(), lines, job.anywhere)?;
+        add_names(host, job, log.lines(), start, names)?;
     }
     Err(host.fail(3, "cannot read the log"))
 }
@@ -221,7 +259,7 @@ fn name_logs<E: Eprint + AllocGlobal, D: Disk>(
 ) -> Result<Vec<u64>, Stop>
     requires logs { AreLogs (D.held host.now.disk.now) job.now paths.now }
     requires names { AreAmong (asked_by (D.held host.now.disk.now) job.now) (names_of names.old) }
-    ensures names { OnOk result (HaveNames (D.held host.now.disk.now) paths.now names.new) }
+    ensures names { OnOk result (HaveNames (D.held host.now.disk.now) job.now.wanted paths.now names.new) }
     ensures asked { OnOk result
         (AreAmong (asked_by (D.held host.now.disk.now) job.now) (names_of names.new)) }
     ensures sizes { IfOk result (λ sizes. HaveSizes (D.held host.now.disk.now) paths.now sizes.items) }
@@ -250,6 +288,7 @@ impl<'a, E: Eprint + AllocGlobal, D: Disk> Run<'a, E, D> {
             host,
             job,
             finder,
+            known: KnownFunctions::new(host.alloc()),
             names: Names::new(host.alloc()),
             given,
             frames: Frames::none(host.alloc()),
@@ -290,14 +329,14 @@ impl<'a, E: Eprint + AllocGlobal, D: Disk> Run<'a, E, D> {
     /// Opens the maps of the scripts that lines name.
     fn open_lines(&mut self, lines: &[u8]) -> Result<(), Stop>
         requires { AreAmong (asked_by (D.held self.old.disk) self.old.job)
-            (asked_in self.old.job.anywhere lines.now) }
+            (asked_for self.old.job lines.now) }
         ensures same { IsSameRun self.old self.new }
         ensures settled { OnOk result (AreSettled (D.held self.new.disk) self.new.job.wanted self.new.chosen
-            (Contains (urls_of lines.now))) }
+            (Contains (urls_of (as_read self.new.job.wanted lines.now)))) }
     {
-        let alloc = self.host.alloc();
-        let names = names_in(alloc, lines, self.job.anywhere)?;
-        self.names.add_counts(alloc, &names, usize::MAX)?;
+        let host = self.host;
+        let names = names_of_lines(host, self.job, lines, &mut self.start)?;
+        self.names.add_counts(host.alloc(), &names, usize::MAX)?;
         self.finder.forget_many();
         self.open_all(&names)
     }
@@ -323,7 +362,6 @@ impl<'a, E: Eprint + AllocGlobal, D: Disk> Run<'a, E, D> {
                 return Ok(());
             }
             let lines = log.lines();
-            self.start.note(self.host, self.job, lines);
             self.open_lines(lines)?;
             self.translate_log(lines, output)?;
             self.count_lines(lines)?;

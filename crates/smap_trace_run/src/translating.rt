@@ -1,16 +1,26 @@
 //! Lines of a log, translated and written.
-ghost use Rattle.std.specs.Prelude.{◌≡◌, OnOk, Some};
+ghost use Rattle.std.specs.Prelude.{◌≡◌, ◌-◌, ◌<◌, ◌^◌, OnOk, Some, false};
+ghost use Rattle.smap_io.specs.Device.{device_failures, has_ended};
+ghost use Rattle.smap_io.specs.Streams.{streams};
+ghost use Rattle.smap_trace.specs.Streaming.{TranslatesBy};
+ghost use Rattle.smap_trace_run.specs.Alone.{fate_meant};
+ghost use Rattle.smap_trace_run.specs.Alone as spec;
 ghost use Rattle.smap_trace_run.specs.OutputView.{contents_of};
 ghost use Rattle.smap_trace_run.specs.Written.{AreNamed, IsBegun, IsTranslatedIn};
 
-use crate::decorating::decorate;
+use crate::alone::script_alone;
+use crate::decorating::{Lookup, Style, decorate};
 use crate::output::Output;
 use crate::tracing::Run;
 use smap_io::Device;
 use smap_logs::{Heeded, Log};
+use smap_map_files::Wanted;
+use smap_record::SourceMap;
 use smap_system::{Disk, Host, Stop};
-use smap_trace::{Counts, TraceError, translate_in};
+use smap_trace::{Counts, LineMode, Scripts, TraceError, translate_alone_in, translate_in};
+use std::alloc::Global;
 use std::io::{Read, Write};
+use std::sync::Arc;
 
 /// What became of a log's lines.
 #[derive(Clone, Copy, PartialEq, Eq)]
@@ -37,6 +47,36 @@ impl Tally {
             .saturating_add(counts.translated)
             .saturating_add(counts.dropped);
         self.ends_within_line = ends_within_line;
+    }
+}
+
+/// Translates lines by these scripts.
+fn translate_lines<R: Read, W: Write>(
+    alloc: Global,
+    reader: &mut Device<R>,
+    scripts: &Scripts<Arc<SourceMap>>,
+    style: &Style<'_>,
+    wanted: &Wanted<'_>,
+    writer: &mut Device<W>,
+) -> Result<Counts, TraceError>
+    requires reads { device_failures reader.old < 2 ^ 64 - 1 }
+    requires writes { device_failures writer.old < 2 ^ 64 - 1 }
+    requires not_ended { has_ended reader.old ≡ false }
+    ensures { TranslatesBy
+        (fate_meant (spec.script_alone wanted.now) style.now.mode scripts.now style.now.hide)
+        (streams R.remaining reader.old reader.new W.contents writer.old writer.new) result }
+{
+    let (mode, hide) = (style.mode, style.hide);
+    match script_alone(wanted) {
+        Some(unnamed) => {
+            let mode = LineMode {
+                mode,
+                hide,
+                unnamed,
+            };
+            translate_alone_in(alloc, reader, scripts, mode, writer)
+        }
+        None => translate_in(alloc, reader, scripts, mode, hide, writer),
     }
 }
 
@@ -85,7 +125,13 @@ impl<E: Eprint + AllocGlobal, D: Disk> Run<'_, E, D> {
         let (host, job) = (self.host, self.job);
         let mut out = Vec::new(host.alloc());
         let scripts = self.finder.scripts();
-        let counts = decorate(host.alloc(), lines, scripts, &job.style, &mut out)?;
+        let known = &mut self.known;
+        let lookup = Lookup {
+            scripts,
+            style: job.style,
+            unnamed: script_alone(&job.wanted),
+        };
+        let counts = decorate(host.alloc(), lines, &lookup, known, &mut out)?;
         output.write(host, &out)?;
         self.tally.add(counts, !lines.ends_with(b"\n"));
         Ok(())
@@ -121,11 +167,11 @@ impl<E: Eprint + AllocGlobal, D: Disk> Run<'_, E, D> {
         R: Drop,
         ensures named { AreNamed (D.held self.old.disk) self.old.job self.old.chosen }
         ensures kept { self.new ≡ self.old }
-        ensures traced { OnOk result (IsTranslatedIn self.old.chosen self.old.job.style (R.remaining reader)
+        ensures traced { OnOk result (IsTranslatedIn self.old.chosen self.old.job (R.remaining reader)
             (contents_of W.contents output.old) (contents_of W.contents output.new)) }
     {
-        let (host, style) = (self.host, &self.job.style);
-        if !style.is_plain() {
+        let (host, job) = (self.host, self.job);
+        if !job.style.is_plain() {
             return self.decorate_log(reader, output);
         }
         let Some(writer) = output.writer.take() else {
@@ -133,8 +179,15 @@ impl<E: Eprint + AllocGlobal, D: Disk> Run<'_, E, D> {
         };
         let mut reader = Device::new(Heeded::new(reader));
         let mut writer = Device::new(writer);
-        let (scripts, mode, hide) = (self.finder.scripts(), style.mode, style.hide);
-        let answer = translate_in(host.alloc(), &mut reader, scripts, mode, hide, &mut writer);
+        let (scripts, style, wanted) = (self.finder.scripts(), &job.style, &job.wanted);
+        let answer = translate_lines(
+            host.alloc(),
+            &mut reader,
+            scripts,
+            style,
+            wanted,
+            &mut writer,
+        );
         output.writer = Some(writer.into_inner());
         let reader = reader.into_inner();
         match answer {

@@ -1,7 +1,7 @@
 //! This build compared with another one.
 use crate::parts::{Part, rows_of};
 use crate::sizing::{json_line, shown};
-use serde_json::{Value, json};
+use serde_json::{Map, Value, json};
 use smap_command_line::view::SizesForm;
 use smap_view_page::{Row, by_growth, folders, summed};
 use std::alloc::{AllocError, Global};
@@ -79,6 +79,32 @@ fn change(row: &Row<'_>) -> &'static str {
     }
 }
 
+/// The numbers of a row in a table.
+fn columns(alloc: Global, row: &Row<'_>) -> Result<String, AllocError> {
+    let (old, bytes) = (row.amounts.old, row.amounts.bytes);
+    let growth = growth_text(alloc, old, bytes)?;
+    let growth = growth.as_str();
+    format!(in alloc; "{old:>10}{bytes:>10}{growth:>10}")
+}
+
+/// Appends a line of a table.
+fn push_row(alloc: Global, text: &mut String, row: &Row<'_>) -> Result<(), AllocError> {
+    let columns = columns(alloc, row)?;
+    let name = shown(alloc, row.name)?;
+    let (columns, name, change) = (columns.as_str(), name.as_str(), change(row));
+    let line = format!(in alloc; "{columns}  {name}{change}\n")?;
+    text.push_str(line.as_str())
+}
+
+/// Appends how many rows are as they were.
+fn push_same(alloc: Global, text: &mut String, same: usize) -> Result<(), AllocError> {
+    if same == 0 {
+        return Ok(());
+    }
+    let line = format!(in alloc; "{same:>30}  as before\n")?;
+    text.push_str(line.as_str())
+}
+
 /// Appends the rows that have changed, and how many haven't.
 fn push_rows(
     alloc: Global,
@@ -90,53 +116,71 @@ fn push_rows(
     text.push_str(head.as_str())?;
     let mut same: usize = 0;
     for row in rows {
-        let (old, bytes) = (row.amounts.old, row.amounts.bytes);
-        if old == bytes {
+        if row.amounts.old == row.amounts.bytes {
             same = same.saturating_add(1);
-            continue;
+        } else {
+            push_row(alloc, text, row)?;
         }
-        let (growth, name) = (growth_text(alloc, old, bytes)?, shown(alloc, row.name)?);
-        let (growth, name, change) = (growth.as_str(), name.as_str(), change(row));
-        let front = format!(in alloc; "{old:>10}{bytes:>10}{growth:>10}")?;
-        let front = front.as_str();
-        let line = format!(in alloc; "{front}  {name}{change}\n")?;
-        text.push_str(line.as_str())?;
     }
-    if same > 0 {
-        let line = format!(in alloc; "{same:>30}  as before\n")?;
-        text.push_str(line.as_str())?;
+    push_same(alloc, text, same)
+}
+
+/// Appends the growth of folders, if there are some.
+fn push_folders(alloc: Global, text: &mut String, builds: Builds<'_>) -> Result<(), AllocError> {
+    let folders = grown_folders(alloc, builds)?;
+    if folders.is_empty() {
+        return Ok(());
     }
-    Ok(())
+    push_rows(alloc, text, &folders, "folder")
+}
+
+/// What a build has, and how much it has grown.
+fn total(alloc: Global, given: &str, old: u64, bytes: u64) -> Result<String, AllocError> {
+    let given = shown(alloc, given)?;
+    let growth = growth_text(alloc, old, bytes)?;
+    let (given, growth) = (given.as_str(), growth.as_str());
+    format!(in alloc; "{given}: {bytes} bytes, {growth}")
+}
+
+/// The first line of a table.
+fn heading(alloc: Global, given: &str, name: &str, rows: &[Row<'_>]) -> Result<String, AllocError> {
+    let (old, bytes) = bytes_in(rows);
+    let total = total(alloc, given, old, bytes)?;
+    let name = shown(alloc, name)?;
+    let (total, name) = (total.as_str(), name.as_str());
+    format!(in alloc; "{total}: {name} has {old}\n")
 }
 
 fn table(alloc: Global, given: &str, builds: Builds<'_>) -> Result<String, AllocError> {
     let rows = grown(alloc, builds, false)?;
-    let folders = grown_folders(alloc, builds)?;
-    let (old, bytes) = bytes_in(&rows);
-    let growth = growth_text(alloc, old, bytes)?;
-    let (given, name) = (shown(alloc, given)?, shown(alloc, builds.name)?);
-    let (given, name, growth) = (given.as_str(), name.as_str(), growth.as_str());
-    let front = format!(in alloc; "{given}: {bytes} bytes, {growth}")?;
-    let front = front.as_str();
-    let mut text = format!(in alloc; "{front}: {name} has {old}\n")?;
+    let mut text = heading(alloc, given, builds.name, &rows)?;
     push_rows(alloc, &mut text, &rows, "source")?;
-    if !folders.is_empty() {
-        push_rows(alloc, &mut text, &folders, "folder")?;
-    }
+    push_folders(alloc, &mut text, builds)?;
     Ok(text)
+}
+
+/// The numbers of a row as TSV.
+fn fields(alloc: Global, row: &Row<'_>) -> Result<String, AllocError> {
+    let (old, bytes) = (row.amounts.old, row.amounts.bytes);
+    let growth = growth_text(alloc, old, bytes)?;
+    let growth = growth.as_str();
+    format!(in alloc; "{old}\t{bytes}\t{growth}")
+}
+
+/// Appends a line of TSV.
+fn push_fields(alloc: Global, text: &mut String, row: &Row<'_>) -> Result<(), AllocError> {
+    let fields = fields(alloc, row)?;
+    let name = shown(alloc, row.name)?;
+    let (fields, name) = (fields.as_str(), name.as_str());
+    let line = format!(in alloc; "{fields}\t{name}\n")?;
+    text.push_str(line.as_str())
 }
 
 fn tsv(alloc: Global, builds: Builds<'_>) -> Result<String, AllocError> {
     let rows = grown(alloc, builds, false)?;
     let mut text = String::new(alloc);
     for row in &rows {
-        let (old, bytes) = (row.amounts.old, row.amounts.bytes);
-        let (growth, name) = (growth_text(alloc, old, bytes)?, shown(alloc, row.name)?);
-        let (growth, name) = (growth.as_str(), name.as_str());
-        let front = format!(in alloc; "{old}\t{bytes}\t{growth}")?;
-        let front = front.as_str();
-        let line = format!(in alloc; "{front}\t{name}\n")?;
-        text.push_str(line.as_str())?;
+        push_fields(alloc, &mut text, row)?;
     }
     Ok(text)
 }
@@ -149,14 +193,16 @@ fn growth_of(old: u64, bytes: u64) -> i64 {
         .saturating_sub(old.unwrap_or(i64::MAX))
 }
 
+fn row_value(alloc: Global, row: &Row<'_>) -> Result<Value, AllocError> {
+    let (old, bytes) = (row.amounts.old, row.amounts.bytes);
+    let growth = growth_of(old, bytes);
+    json!(in alloc; {"bytes": bytes, "growth": growth, "name": row.name, "old": old})
+}
+
 fn row_values(alloc: Global, rows: &[Row<'_>]) -> Result<Value, AllocError> {
     let mut values = Vec::with_capacity(alloc, rows.len())?;
     for row in rows {
-        let (old, bytes) = (row.amounts.old, row.amounts.bytes);
-        let growth = growth_of(old, bytes);
-        values.push(
-            json!(in alloc; {"bytes": bytes, "growth": growth, "name": row.name, "old": old})?,
-        )?;
+        values.push(row_value(alloc, row)?)?;
     }
     Ok(Value::Array(values))
 }
@@ -179,22 +225,41 @@ fn others<'a>(alloc: Global, builds: Builds<'a>) -> Result<Vec<Row<'a>>, AllocEr
     Ok(rows)
 }
 
+/// Puts rows into an object.
+fn put_rows(
+    alloc: Global,
+    members: &mut Map<String, Value>,
+    name: &str,
+    rows: &[Row<'_>],
+) -> Result<(), AllocError> {
+    let values = row_values(alloc, rows)?;
+    let name = String::from_str(alloc, name)?;
+    drop(members.insert(name, values)?);
+    Ok(())
+}
+
+/// Puts the growth of sources, of folders and of what belongs to no source into an object.
+fn put_growth(
+    alloc: Global,
+    members: &mut Map<String, Value>,
+    builds: Builds<'_>,
+) -> Result<(), AllocError> {
+    put_rows(alloc, members, "sources", &grown(alloc, builds, true)?)?;
+    put_rows(alloc, members, "folders", &grown_folders(alloc, builds)?)?;
+    put_rows(alloc, members, "others", &others(alloc, builds)?)
+}
+
 /// The growth of sources, of folders and of what belongs to no source, as JSON.
 pub(crate) fn growth_value(alloc: Global, builds: Builds<'_>) -> Result<Value, AllocError> {
     let (old, bytes) = bytes_in(&rows_of_both(alloc, builds, false)?);
-    let sources = row_values(alloc, &grown(alloc, builds, true)?)?;
-    let folders = row_values(alloc, &grown_folders(alloc, builds)?)?;
-    let others = row_values(alloc, &others(alloc, builds)?)?;
     let growth = growth_of(old, bytes);
-    json!(in alloc; {
-        "bytes": bytes,
-        "folders": folders,
-        "growth": growth,
-        "old": old,
-        "others": others,
-        "since": builds.name,
-        "sources": sources
-    })
+    let mut value = json!(in alloc;
+        {"bytes": bytes, "growth": growth, "old": old, "since": builds.name}
+    )?;
+    if let Some(members) = value.as_object_mut() {
+        put_growth(alloc, members, builds)?;
+    }
+    Ok(value)
 }
 
 /// The growth in the form that is asked for.

@@ -10,7 +10,9 @@ mod budget;
 mod comparing;
 mod files;
 mod folders;
+mod job;
 mod loading;
+mod measuring;
 mod page;
 mod parts;
 mod program;
@@ -19,5 +21,6 @@ mod scripts;
 mod sizing;
 mod status;
 mod template;
+mod writing;
 
 pub use program::run;

@@ -8,6 +8,7 @@ use smap_map_files::{Home, LinkProblem, MapText, ScriptMap, folder_url, is_withi
 use smap_record::{Base, BaseFault, Fault, Limits, ReadError, SourceMap};
 use smap_system::{Disk, Host, Stop, parted};
 use smap_view_page::code_length;
+use std::alloc::Global;
 
 /// How maps are read.
 #[derive(Clone, Copy)]
@@ -83,32 +84,23 @@ struct Script {
 /// Says why a map is refused, with words that follow that.
 fn refuse<E: Eprint + AllocGlobal, D: Disk>(
     host: &Host<'_, E, D>,
-    found: Found,
-    error: String,
+    found: &Found,
+    error: &str,
     detail: &str,
-    place: Value,
-) -> Result<Loaded, Stop> {
-    let alloc = host.alloc();
-    let (path, text) = (found.path.as_str(), error.as_str());
-    let said = format!(in alloc; "{path}: {text}{detail}")?;
+) -> Result<(), Stop> {
+    let path = found.path.as_str();
+    let said = format!(in host.alloc(); "{path}: {error}{detail}")?;
     host.say(said.as_str());
-    Ok(Loaded {
-        map: found.name,
-        url: found.url,
-        script: String::new(alloc),
-        place: String::new(alloc),
-        code: 0,
-        content: Content::Refused(error, place),
-    })
+    Ok(())
 }
 
 fn refuse_map<E: Eprint + AllocGlobal, D: Disk>(
     host: &Host<'_, E, D>,
-    found: Found,
+    found: &Found,
     base: &Base,
     url_bytes: usize,
     fault: &Fault,
-) -> Result<Loaded, Stop> {
+) -> Result<String, Stop> {
     let alloc = host.alloc();
     let error = format!(in alloc; "{fault}")?;
     let text = MapText {
@@ -118,23 +110,18 @@ fn refuse_map<E: Eprint + AllocGlobal, D: Disk>(
         is_file: found.is_file,
     };
     let detail = text.detail(alloc, fault)?;
-    let place = place_of(alloc, &found.bytes, fault)?;
-    refuse(host, found, error, detail.as_str(), place)
+    refuse(host, found, error.as_str(), detail.as_str())?;
+    Ok(error)
 }
 
 fn refuse_urls<E: Eprint + AllocGlobal, D: Disk>(
     host: &Host<'_, E, D>,
-    found: Found,
+    found: &Found,
     most: usize,
-) -> Result<Loaded, Stop> {
+) -> Result<String, Stop> {
     let error = format!(in host.alloc(); "the URLs of its sources take more than {most} bytes")?;
-    refuse(
-        host,
-        found,
-        error,
-        " (--url-bytes allows more)",
-        Value::Null,
-    )
+    refuse(host, found, error.as_str(), " (--url-bytes allows more)")?;
+    Ok(error)
 }
 
 fn base_of<E: Eprint + AllocGlobal, D: Disk>(
@@ -169,6 +156,89 @@ fn script_for<E: Eprint + AllocGlobal, D: Disk>(
     Ok(Script { path, bytes, code })
 }
 
+/// A map, or why it is refused, which has been said.
+#[derive(Drop)]
+enum MapRead {
+    Map(SourceMap),
+    /// The fault, and its place or null.
+    Refused(String, Value),
+}
+
+/// Reads a map that was found.
+fn read_map<E: Eprint + AllocGlobal, D: Disk>(
+    host: &Host<'_, E, D>,
+    found: &Found,
+    base: &Base,
+    url_bytes: usize,
+) -> Result<MapRead, Stop> {
+    let (bytes, limits) = (found.bytes.as_slice(), Limits::usual());
+    match SourceMap::from_slice_within(host.alloc(), bytes, base, limits, url_bytes) {
+        Ok(Some((map, _))) => Ok(MapRead::Map(map)),
+        Ok(None) => {
+            let error = refuse_urls(host, found, url_bytes)?;
+            Ok(MapRead::Refused(error, Value::Null))
+        }
+        Err(ReadError::Memory) => Err(Stop::Memory),
+        Err(ReadError::Refused(fault)) => {
+            let place = place_of(host.alloc(), bytes, &fault)?;
+            let error = refuse_map(host, found, base, url_bytes, &fault)?;
+            Ok(MapRead::Refused(error, place))
+        }
+    }
+}
+
+/// What there is to show of a map that is refused.
+fn with_refused(alloc: Global, found: Found, error: String, place: Value) -> Loaded {
+    Loaded {
+        map: found.name,
+        url: found.url,
+        script: String::new(alloc),
+        place: String::new(alloc),
+        code: 0,
+        content: Content::Refused(error, place),
+    }
+}
+
+/// A script whose text is UTF-8.
+#[derive(Drop)]
+struct Text {
+    name: String,
+    text: String,
+    /// How many bytes stand before the comment that holds its map.
+    code: usize,
+}
+
+fn text_in<E: Eprint + AllocGlobal, D: Disk>(
+    host: &Host<'_, E, D>,
+    script: Script,
+) -> Result<Text, Stop> {
+    let Script { path, bytes, code } = script;
+    let name = String::from_str(host.alloc(), parted(path.as_str()).1)?;
+    let text = text_of(host, path.as_str(), bytes)?;
+    Ok(Text { name, text, code })
+}
+
+/// What there is to show of a map that was read: its script is read, too.
+fn with_script<E: Eprint + AllocGlobal, D: Disk>(
+    host: &Host<'_, E, D>,
+    found: Found,
+    map: SourceMap,
+    script: Option<Script>,
+    named: Option<&str>,
+) -> Result<Loaded, Stop> {
+    let script = script_for(host, found.path.as_str(), &map, script, named)?;
+    let Text { name, text, code } = text_in(host, script)?;
+    let place = String::from_str(host.alloc(), name.as_str())?;
+    Ok(Loaded {
+        map: found.name,
+        url: found.url,
+        script: name,
+        place,
+        code,
+        content: Content::Map(map, text),
+    })
+}
+
 /// Reads a map that was found, and its script.
 fn load_found<E: Eprint + AllocGlobal, D: Disk>(
     host: &Host<'_, E, D>,
@@ -177,32 +247,11 @@ fn load_found<E: Eprint + AllocGlobal, D: Disk>(
     script: Option<Script>,
     named: Option<&str>,
 ) -> Result<Loaded, Stop> {
-    let alloc = host.alloc();
     let base = base_of(host, &found)?;
-    let (bytes, limits) = (found.bytes.as_slice(), Limits::usual());
-    let map = match SourceMap::from_slice_within(alloc, bytes, &base, limits, url_bytes) {
-        Ok(Some((map, _))) => map,
-        Ok(None) => return refuse_urls(host, found, url_bytes),
-        Err(ReadError::Memory) => return Err(Stop::Memory),
-        Err(ReadError::Refused(fault)) => {
-            return refuse_map(host, found, &base, url_bytes, &fault);
-        }
-    };
-    let Script { path, bytes, code } = script_for(host, found.path.as_str(), &map, script, named)?;
-    let name = parted(path.as_str()).1;
-    let (script, place) = (
-        String::from_str(alloc, name)?,
-        String::from_str(alloc, name)?,
-    );
-    let text = text_of(host, path.as_str(), bytes)?;
-    Ok(Loaded {
-        map: found.name,
-        url: found.url,
-        script,
-        place,
-        code,
-        content: Content::Map(map, text),
-    })
+    match read_map(host, &found, &base, url_bytes)? {
+        MapRead::Map(map) => with_script(host, found, map, script, named),
+        MapRead::Refused(error, place) => Ok(with_refused(host.alloc(), found, error, place)),
+    }
 }
 
 /// The URL of the file with this name below a folder.
@@ -290,6 +339,62 @@ fn read_script<E: Eprint + AllocGlobal, D: Disk>(
     read_named(host, path)
 }
 
+/// The map that a script itself holds.
+fn found_within<E: Eprint + AllocGlobal, D: Disk>(
+    host: &Host<'_, E, D>,
+    home: Home<'_>,
+    name: &str,
+    path: &str,
+    map: Vec<u8>,
+) -> Result<Found, Stop> {
+    let alloc = host.alloc();
+    Ok(Found {
+        path: String::from_str(alloc, path)?,
+        name: String::from_str(alloc, parted(name).1)?,
+        url: file_url_of(host, home.url, name)?,
+        bytes: map,
+        is_file: false,
+    })
+}
+
+/// The map of a script that was read, with how many bytes of that stand before the comment that holds it.
+/// A script that was found in a folder may have none.
+fn found_by<E: Eprint + AllocGlobal, D: Disk>(
+    host: &Host<'_, E, D>,
+    home: Home<'_>,
+    name: &str,
+    found: bool,
+    script: &Script,
+) -> Result<Option<(Found, usize)>, Stop> {
+    let (map, problem) = map_of(host.alloc(), host.disk, home, name, &script.bytes)?;
+    let path = script.path.as_str();
+    match own_map(host, home, map)? {
+        ScriptMap::Named(map) | ScriptMap::Beside(map) => {
+            Ok(Some((found_in(host, home, map.as_str())?, script.code)))
+        }
+        ScriptMap::Inline(map) => Ok(Some((
+            found_within(host, home, name, path, map)?,
+            code_length(&script.bytes),
+        ))),
+        ScriptMap::Nothing if found => Ok(None),
+        ScriptMap::Nothing => Err(fail_alone(host, path, problem)),
+    }
+}
+
+/// The script in a file. None of it is known to be a comment with its map.
+fn script_in<E: Eprint + AllocGlobal, D: Disk>(
+    host: &Host<'_, E, D>,
+    home: Home<'_>,
+    name: &str,
+    found: bool,
+) -> Result<Script, Stop> {
+    let folder = home.path;
+    let path = format!(in host.alloc(); "{folder}{name}")?;
+    let bytes = read_script(host, home, path.as_str(), found)?;
+    let code = bytes.len();
+    Ok(Script { path, bytes, code })
+}
+
 /// Reads a script and its map. One that was found in a folder may have none.
 fn load_script<E: Eprint + AllocGlobal, D: Disk>(
     host: &Host<'_, E, D>,
@@ -298,32 +403,15 @@ fn load_script<E: Eprint + AllocGlobal, D: Disk>(
     name: &str,
     found: bool,
 ) -> Result<Option<Loaded>, Stop> {
-    let alloc = host.alloc();
-    let folder = home.path;
-    let path = format!(in alloc; "{folder}{name}")?;
-    let bytes = read_script(host, home, path.as_str(), found)?;
-    let (map, problem) = map_of(alloc, host.disk, home, name, &bytes)?;
-    let map = own_map(host, home, map)?;
-    let code = match &map {
-        ScriptMap::Inline(_) => code_length(&bytes),
-        _ => bytes.len(),
+    let script = script_in(host, home, name, found)?;
+    let Some((map, code)) = found_by(host, home, name, found, &script)? else {
+        return Ok(None);
     };
-    let map = match map {
-        ScriptMap::Named(map) | ScriptMap::Beside(map) => found_in(host, home, map.as_str())?,
-        ScriptMap::Inline(map) => Found {
-            path: String::from_str(alloc, path.as_str())?,
-            name: String::from_str(alloc, parted(name).1)?,
-            url: file_url_of(host, home.url, name)?,
-            bytes: map,
-            is_file: false,
-        },
-        ScriptMap::Nothing if found => return Ok(None),
-        ScriptMap::Nothing => return Err(fail_alone(host, path.as_str(), problem)),
-    };
+    let Script { path, bytes, .. } = script;
     let script = Some(Script { path, bytes, code });
     let mut loaded = load_found(host, map, reading.url_bytes, script, None)?;
     if found {
-        loaded.place = String::from_str(alloc, name)?;
+        loaded.place = String::from_str(host.alloc(), name)?;
     }
     Ok(Some(loaded))
 }

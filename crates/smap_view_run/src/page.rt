@@ -64,7 +64,7 @@ fn refused_data(
     alloc: Global,
     names: Names<'_>,
     error: &str,
-    place: Value,
+    place: &Value,
 ) -> Result<Data, AllocError> {
     let refused = json!(in alloc; {"error": error, "place": place})?;
     Ok(Data {
@@ -77,25 +77,17 @@ fn refused_data(
 /// The data of a map that was read, with what was measured. A byte order mark isn't part of the text.
 pub(crate) fn data_of(
     alloc: Global,
-    loaded: Loaded,
+    loaded: &Loaded,
     measures: &Measures,
 ) -> Result<Data, AllocError> {
-    let Loaded {
-        map,
-        url,
-        script,
-        place: _,
-        code: _,
-        content,
-    } = loaded;
     let names = Names {
-        map: &map,
-        url: &url,
-        script: &script,
+        map: &loaded.map,
+        url: &loaded.url,
+        script: &loaded.script,
     };
-    match content {
-        Content::Map(map, text) => map_data(alloc, names, &map, &text, measures),
-        Content::Refused(error, place) => refused_data(alloc, names, &error, place),
+    match &loaded.content {
+        Content::Map(map, text) => map_data(alloc, names, map, text, measures),
+        Content::Refused(error, place) => refused_data(alloc, names, error, place),
     }
 }
 

@@ -7,7 +7,7 @@ use smap_io::Device;
 use smap_record::{Base, Limits, ReadError, SourceMap};
 use smap_testing::{LongReader, SlowReader, SlowWriter};
 use smap_tool::round_trips::read_again;
-use smap_tool::{Outcome, RunFault, Task, run};
+use smap_tool::{ComposeOptions, Outcome, RunFault, Task, run};
 use std::alloc::Global;
 use std::process::Abort;
 
@@ -18,7 +18,7 @@ const MAP: &str = r#"{"version":3,"sources":["a.js"],"names":["x","y"],"mappings
 
 /// Each command that reads its input to the end, an input, and what is written for it.
 #[rattlefmt::skip]
-static ROWS: [(Task<'static>, &str, &str); 7] = [
+static ROWS: [(Task<'static>, &str, &str); 8] = [
     (Task::Respell, "gAAAAC,CAACD;;", "AAAAC,CAACD\n"),
     (
         Task::Check { base: BASE },
@@ -42,6 +42,17 @@ static ROWS: [(Task<'static>, &str, &str); 7] = [
     ),
     (Task::Lookup { base: BASE, line: 0, column: 7 }, MAP, "0:1 http://h/m/a.js:0:1 \"x\"\n"),
     (Task::Scripts, "@b:1:1\n@a:1:1\n@b:1:1\n", "2 b\n1 a\n"),
+    (
+        Task::Compose { options: ComposeOptions { relative: true, thin: true, used: true } },
+        concat!(
+            "map http://h/out.js http://h/out.js.map 61\n",
+            r#"{"version":3,"sources":["m.js"],"names":[],"mappings":"AAAA"}"#,
+            "\nmap http://h/m.js http://h/m.js.map 73\n",
+            r#"{"version":3,"sources":["a.ts","b.ts"],"names":[],"mappings":"ACAA,ADAC"}"#,
+            "\nend\n",
+        ),
+        r#"{"mappings":"AAAC","names":[],"sources":["a.ts"],"version":3}"#,
+    ),
 ];
 
 /// What came of a run, what it wrote, and how often its devices were called.

@@ -3,7 +3,7 @@
 use crate::asserted::{equal, holds};
 use smap_mappings::SegmentPlace;
 use smap_record::{Fault, Kind, Path};
-use smap_tool::{RunFault, Task, WordsFault, fault_text, task_of};
+use smap_tool::{ComposeOptions, RunFault, Task, WordsFault, fault_text, task_of};
 use smap_trace::{MatchMode, TraceError};
 use std::alloc::{AllocError, Global};
 use std::process::Abort;
@@ -48,10 +48,14 @@ const QUERIES: MatchMode = MatchMode {
 
 /// Command lines, and their tasks.
 #[rattlefmt::skip]
-static COMMANDS: [(&str, Task<'static>); 16] = [
+static COMMANDS: [(&str, Task<'static>); 17] = [
     ("./smap respell", Task::Respell),
     (" respell", Task::Respell),
     ("smap scripts", Task::Scripts),
+    (
+        "smap compose --used --relative",
+        Task::Compose { options: ComposeOptions { relative: true, thin: false, used: true } },
+    ),
     ("smap check http://h/m/out.js.map", Task::Check { base: BASE }),
     ("smap check ", Task::Check { base: "" }),
     ("smap check -- -x", Task::Check { base: "-x" }),

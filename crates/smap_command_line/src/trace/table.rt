@@ -2,7 +2,7 @@
 use crate::rows::{FLAG, OptionOf, OptionRow, URL_BYTES, Value};
 
 /// The options, in the order in which the help lists them and values are looked at.
-pub const OPTIONS: [OptionRow; 13] = [
+pub const OPTIONS: [OptionRow; 14] = [
     OptionOf {
         name: "frames-only",
         help: "Translate only lines that are stack frames, with nothing around them",
@@ -42,6 +42,12 @@ pub const OPTIONS: [OptionRow; 13] = [
         help: "List the scripts that the log names: how often, and whether each has a map",
         details: "The most frequent come first. This shows why nothing was translated, and standard \
                   error says which option may help. It needs no maps.",
+        ..FLAG
+    },
+    OptionOf {
+        name: "names",
+        help: "Write the names of functions in frames, where the source's text in the map says them surely",
+        details: "Other names stay. docs/LOGS.md says what is sure.",
         ..FLAG
     },
     OptionOf {

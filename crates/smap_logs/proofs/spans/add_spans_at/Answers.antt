@@ -1,4 +1,5 @@
 use Rattle.std.proofs.Common.{◌∙◌, ◌++◌, ◌∷◌, [], ap, Option, ℕ}
+use Rattle.smap_logs.specs.Beginnings.{apart}
 use Rattle.smap_logs.specs.Spans.{path_before, span_if}
 use Rattle.smap_logs.specs.declared.beginnings.Beginnings.{Beginnings}
 use Rattle.smap_logs.proofs.SpanLemmas.{adds_trans, five_more}
@@ -6,7 +7,7 @@ use Rattle.smap_logs.proofs.spans.add_spans_at.Goals as goal
 
 pub returns-clause-ok : goal.returns-clause-ok
 returns-clause-ok c =
-    let f = c.beginnings_of-found.result in
+    let f = c.apart-found.result in
     five_more c.args.spans.now.items _ _ _ _ _ _ _ _ _ _ c.in_ok-add_span.ensures.ok
     c.in_ok-add_span-2.ensures.ok c.in_ok-add_span-3.ensures.ok c.in_ok-add_span-4.ensures.ok
     c.in_ok-add_span-5.ensures.ok
@@ -22,7 +23,7 @@ returns-clause-ok c =
     ++ (span_if c.args.place f.farthest (f.nearest ∷ f.scheme ∷ f.root ∷ [])
     ++ span_if c.args.place (path_before c.args.line.now c.args.place)
     (f.nearest ∷ f.scheme ∷ f.root ∷ f.farthest ∷ []))))))
-    c.beginnings_of-found.ensures.value
+    (c.apart-found.ensures.value ∙ ap (apart c.args.line.now) c.beginnings_of.ensures.value)
 
 pub returns-clause-within : goal.returns-clause-within
 returns-clause-within c =

@@ -20,5 +20,7 @@ returns-clause-shape c =
     (ap top_of c.in_ok-lookup_command.ensures.shape) in
     let sixth = c.in_ok-command-6.ensures.shape ∙ ap₂ with_subcommand fifth
     (ap top_of c.in_ok-translate_command.ensures.shape) in
-    IfOk-weaker c.with-7.result _ _ (λ r h. h ∙ ap₂ with_subcommand sixth
-    (ap top_of c.scripts_command.ensures.shape)) c.with-7.ensures.shape
+    let seventh = c.in_ok-command-7.ensures.shape ∙ ap₂ with_subcommand sixth
+    (ap top_of c.scripts_command.ensures.shape) in
+    IfOk-weaker c.with-8.result _ _ (λ r h. h ∙ ap₂ with_subcommand seventh
+    (ap top_of c.in_ok-compose_command.ensures.shape)) c.with-8.ensures.shape

@@ -21,6 +21,9 @@ returns-in-Translate-clause-answers g c = rw c.in-Translate.is c.run_translate_b
 pub returns-in-Scripts-clause-answers : goal.returns-in-Scripts-clause-answers
 returns-in-Scripts-clause-answers g c = rw c.in-Scripts.is c.run_scripts.ensures.answers
 
+pub returns-in-Compose-clause-answers : goal.returns-in-Compose-clause-answers
+returns-in-Compose-clause-answers g c = rw c.in-Compose.is c.run_compose.ensures.answers
+
 pub returns-in-Respell-clause-calls : goal.returns-in-Respell-clause-calls
 returns-in-Respell-clause-calls g c = rw c.in-Respell.is c.run_respell.ensures.calls
 
@@ -41,3 +44,6 @@ returns-in-Translate-clause-calls g c = rw c.in-Translate.is c.run_translate_by.
 
 pub returns-in-Scripts-clause-calls : goal.returns-in-Scripts-clause-calls
 returns-in-Scripts-clause-calls g c = rw c.in-Scripts.is c.run_scripts.ensures.calls
+
+pub returns-in-Compose-clause-calls : goal.returns-in-Compose-clause-calls
+returns-in-Compose-clause-calls g c = rw c.in-Compose.is c.run_compose.ensures.calls

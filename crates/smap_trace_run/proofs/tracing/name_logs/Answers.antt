@@ -11,7 +11,7 @@ loop-path-preserved g c =
     let i = c.loop-path.path-index in
     let sizes = c.loop-path.sizes.items in
     record {
-      names = one_more_log held paths i _ (omega (arith, c.loop-path-test.true))
+      names = one_more_log held c.args.job.now.wanted paths i _ (omega (arith, c.loop-path-test.true))
           (take_remaining g.D.Reader.Read.remaining c.in_ok-log.log) c.loop-path.names
           c.name_log.new.names c.in_ok-name_log.ensures.names c.in_ok-log.ensures
           c.loop-path.invariant.names;

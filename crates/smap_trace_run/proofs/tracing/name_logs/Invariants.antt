@@ -7,7 +7,7 @@ use Rattle.smap_trace_run.proofs.tracing.name_logs.Given as goal
 
 abbrev pub invariant-loop-path : goal.invariant-loop-path
 invariant-loop-path g l = record {
-  names : HaveNamesTo (g.D.Disk.held l.host.disk.now) l.paths l.path-index l.names;
+  names : HaveNamesTo (g.D.Disk.held l.host.disk.now) l.job.wanted l.paths l.path-index l.names;
   among : AreAmong (asked_by (g.D.Disk.held l.host.disk.now) l.job) (names_of l.names);
   count : length l.sizes.items ≡ l.path-index;
   each : (k : ℕ) (d : Bor (List ℕ)) → k < l.path-index

@@ -1,21 +1,21 @@
 use Rattle.std.proofs.Common.{◌+◌, refl, sym, subst, Bor, List, ℕ, map, take}
-use Rattle.smap_map_finder.specs.Choice.{ArePicksOf, IsBestOf, files_of, map_files_of, script_files_of}
+use Rattle.smap_map_finder.specs.Choice.{ArePicksOf, IsBestOf, map_names_of, names_of, script_names_of}
 use Rattle.smap_map_finder.proofs.ChoiceLemmas.{found_at, one_more}
 use Rattle.smap_map_finder.proofs.opening.Search.settle_each.Goals as goal
 
 pub settled_found-requires-clause-found : goal.settled_found-requires-clause-found
 settled_found-requires-clause-found g c = found_at c.args.self.now.wanted.now
-    (files_of c.args.self.now.wanted.now)
+    (names_of c.args.self.now.wanted.now)
     c.args.names.now c.args.picks.now.all.now c.loop-i.i _ _ c.requires.picks c.loop-i-test.true
 
 pub settled_found-requires-clause-script : goal.settled_found-requires-clause-script
 settled_found-requires-clause-script g c = found_at c.args.self.now.wanted.now
-    (script_files_of c.args.self.now.wanted.now)
+    (script_names_of c.args.self.now.wanted.now)
     c.args.names.now c.args.picks.now.scripts.now c.loop-i.i _ _ c.requires.scripts c.loop-i-test.true
 
 pub settled_found-requires-clause-map : goal.settled_found-requires-clause-map
 settled_found-requires-clause-map g c = found_at c.args.self.now.wanted.now
-    (map_files_of c.args.self.now.wanted.now)
+    (map_names_of c.args.self.now.wanted.now)
     c.args.names.now c.args.picks.now.maps.now c.loop-i.i _ _ c.requires.maps c.loop-i-test.true
 
 pub settled_found-requires-clause-links : goal.settled_found-requires-clause-links

@@ -3,12 +3,11 @@ use Rattle.std.specs.Prelude.{⊤}
 use Rattle.std.specs.Io.KnownBytes.{IsAtEnd}
 use Rattle.smap_logs.specs.Logs.{handed, pending}
 use Rattle.smap_trace_run.specs.OutputView.{contents_of}
-use Rattle.smap_logs.specs.Naming.{asked_in}
-use Rattle.smap_trace_run.specs.Written.{AreAmong, IsOfLogs, IsTraced, IsTracedIn, asked_by}
+use Rattle.smap_trace_run.specs.Written.{AreAmong, IsOfLogs, IsTraced, IsTracedIn, asked_by, asked_for}
 use Rattle.smap_trace_run.proofs.AskedLemmas.{next_asked}
 use Rattle.smap_logs.proofs.LogLemmas.{handed_lines, new_log}
 use Rattle.smap_trace_run.proofs.PartsLemmas.{all_parts, none_so_far, one_more_part, so_far_worse}
-use Rattle.smap_trace_run.proofs.RunningLemmas.{at_start, ended, later, one_run, started}
+use Rattle.smap_trace_run.proofs.RunningLemmas.{at_start, ended, later, one_run}
 use Rattle.smap_trace_run.proofs.TracedLemmas.{traced_lines}
 use Rattle.smap_trace_run.proofs.tracing.Run.follow_log.Goals as goal
 
@@ -43,9 +42,9 @@ open_lines-requires g c =
     let held = g.D.Disk.held c.args.self.now.disk in
     let job = c.args.self.now.job in
     let log = c.advance.new.self in
-    later (λ d j. AreAmong (asked_by (g.D.Disk.held d) j) (asked_in j.anywhere c.lines-lines.result.now))
-    c.args.self.now _ (ended _ _ _ c.loop.invariant.same c.self-in-loop.view_is)
-    (subst (λ (part : List ℕ). AreAmong (asked_by held job) (asked_in job.anywhere part))
+    later (λ d j. AreAmong (asked_by (g.D.Disk.held d) j) (asked_for j c.lines-lines.result.now))
+    c.args.self.now _ c.loop.invariant.same
+    (subst (λ (part : List ℕ). AreAmong (asked_by held job) (asked_for job part))
     (sym c.lines-lines.ensures)
     (next_asked held job (pending g.R.Read.remaining c.loop.log) (g.R.Read.remaining log.reader) log.block
     log.ended (rw c.if-not-more.false at c.in_ok-more.ensures.lines) c.loop.invariant.asked).1)
@@ -53,7 +52,7 @@ open_lines-requires g c =
 pub loop-preserved : goal.loop-preserved
 loop-preserved g c = record {
   same = one_run _ _ _ c.loop.invariant.same
-      (ended _ _ _ (started _ _ _ c.self-in-loop.view_is c.in_ok-open_lines.ensures.same)
+      (ended _ _ _ c.in_ok-open_lines.ensures.same
       (c.count_lines.ensures ∙ c.translate_log.ensures.kept));
   asked = let log = c.advance.new.self in
       (next_asked (g.D.Disk.held c.args.self.now.disk) c.args.self.now.job
@@ -68,7 +67,7 @@ loop-preserved g c = record {
       let middle = contents_of g.W.Write.contents c.loop.output in
       let after = contents_of g.W.Write.contents c.translate_log.new.output in
       let run = c.open_lines.new.self in
-      let more = started _ _ _ c.self-in-loop.view_is c.in_ok-open_lines.ensures.same in
+      let more = c.in_ok-open_lines.ensures.same in
       let same = one_run _ _ _ c.loop.invariant.same more in
       rw (c.count_lines.ensures ∙ c.translate_log.ensures.kept) (one_more_part held job run.chosen.worst
       (λ name. ⊤) c.loop.log.ended log.ended (g.R.Read.remaining c.args.reader)

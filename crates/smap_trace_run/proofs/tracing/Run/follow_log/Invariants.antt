@@ -14,7 +14,7 @@ invariant-loop g l =
     record {
       same : IsSameRun l.initial.self l.self;
       asked : IsOfLogs held job (pending g.R.Read.remaining l.log);
-      traced : is_plain_style job.style.prefixes.now job.style.context ≡ true
+      traced : is_plain_style job.style.prefixes.now job.style.context job.style.names ≡ true
           → SoFar held job l.self.chosen.worst (λ name. ⊤) l.log.ended (g.R.Read.remaining l.fn.reader)
           (pending g.R.Read.remaining l.log) (contents_of g.W.Write.contents l.initial.output)
           (contents_of g.W.Write.contents l.output);

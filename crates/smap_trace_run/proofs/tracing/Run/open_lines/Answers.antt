@@ -1,5 +1,6 @@
 use Rattle.smap_trace.specs.Naming.{urls_of}
 use Rattle.smap_logs.specs.Naming.{frames_of}
+use Rattle.smap_trace_run.specs.Alone.{as_read}
 use Rattle.smap_trace_run.specs.Written.{asked_by}
 use Rattle.smap_trace_run.proofs.AskedLemmas.{names_of_lines}
 use Rattle.smap_trace_run.proofs.RunningLemmas.{runs_still}
@@ -16,11 +17,12 @@ open_all-requires g c =
     let job = c.self.inside.job.now in
     let names = c.in_ok-names.names in
     names_of_lines job.anywhere (asked_by (g.D.Disk.held c.self.inside.host.now.disk.now) job) names
-    c.args.lines.now c.in_ok-names.ensures.frames.0 c.in_ok-names.ensures.others.0
+    (as_read job.wanted c.args.lines.now) c.in_ok-names.ensures.frames.0 c.in_ok-names.ensures.others.0
     (rw (← c.self.view_is) at c.requires)
 
 pub returns-clause-settled : goal.returns-clause-settled
 returns-clause-settled g c =
     let s = c.open_all.new.self in
     lines_settled (g.D.Disk.held s.disk) s.job.wanted s.chosen (frames_of c.in_ok-names.names)
-    (urls_of c.args.lines.now) c.open_all.result c.in_ok-names.ensures.frames.1 c.open_all.ensures.settled
+    (urls_of (as_read s.job.wanted c.args.lines.now)) c.open_all.result
+    (rw c.open_all.ensures.same.job c.in_ok-names.ensures.frames.1) c.open_all.ensures.settled
