@@ -343,7 +343,12 @@ enum {
 
     /* The URL of a script may be followed by a query and a fragment, which are replaced with it, as in
      * `out.js?v=3:1:2`. Where the URLs of several scripts fit, the longest counts. */
-    SMAP_IGNORE_QUERY = 4
+    SMAP_IGNORE_QUERY = 4,
+
+    /* Frames get the names of functions, where these are sure (docs/LOGS.md, "Names of functions"), by the
+     * texts of sources in the maps. Each call reads those that it needs anew, so one call for many lines is
+     * faster than one for each. */
+    SMAP_NAMES = 8
 };
 
 /* Translates one line, with its line feed if it has one, by the map of the script at `url`. OK: `out` gets

@@ -411,6 +411,8 @@ pub struct TraceOptions {
     pub anywhere: bool,
     /// The URL of a script may be followed by a query and a fragment.
     pub ignore_query: bool,
+    /// Frames get the names of functions, where these are sure.
+    pub names: bool,
 }
 
 impl From<bool> for TraceOptions {
@@ -422,8 +424,12 @@ impl From<bool> for TraceOptions {
 impl TraceOptions {
     /// The bits of smap.h for them.
     fn how(self) -> u8 {
-        let bits =
-            [(self.hide, HIDE_IGNORED), (self.anywhere, ANYWHERE), (self.ignore_query, IGNORE_QUERY)];
+        let bits = [
+            (self.hide, HIDE_IGNORED),
+            (self.anywhere, ANYWHERE),
+            (self.ignore_query, IGNORE_QUERY),
+            (self.names, NAMES),
+        ];
         bits.iter().filter(|(is_set, _)| *is_set).map(|&(_, bit)| bit as u8).sum()
     }
 }
@@ -738,6 +744,7 @@ mod raw {
     pub const HIDE_IGNORED: u32 = 1;
     pub const ANYWHERE: u32 = 2;
     pub const IGNORE_QUERY: u32 = 4;
+    pub const NAMES: u32 = 8;
     pub const FILE_OTHER: u32 = 0;
     pub const FILE_SCRIPT: u32 = 1;
     pub const FILE_STYLE_SHEET: u32 = 2;

@@ -14,7 +14,7 @@ smap flatten: --help
 smap lookup: --help
 smap respell: --help
 smap scripts: --help
-smap translate: --hide-ignored --anywhere --ignore-query --help
+smap translate: --hide-ignored --anywhere --ignore-query --names --help
 smap compose: --relative --thin --used --help
 smap-events: --no-raw --context --version --help
 smap-trace: --frames-only --anywhere --hide-ignored --skip-broken --strict --check-all --list --names --context --url-bytes --source-prefix --quiet --verbose --version --help

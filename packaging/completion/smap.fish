@@ -34,6 +34,7 @@ complete -c smap -n '__fish_seen_subcommand_from tidy' -l relative -d 'Write sou
 complete -c smap -n '__fish_seen_subcommand_from translate' -l hide-ignored -d 'Leave out frames in ignored sources'
 complete -c smap -n '__fish_seen_subcommand_from translate' -l anywhere -d 'Find positions anywhere in a line'
 complete -c smap -n '__fish_seen_subcommand_from translate' -l ignore-query -d 'Ignore a query behind the URL of a script'
+complete -c smap -n '__fish_seen_subcommand_from translate' -l names -d 'Write the names of functions in frames'
 complete -c smap -n '__fish_seen_subcommand_from compose' -l relative -d 'Write source URLs relative to BASE'
 complete -c smap -n '__fish_seen_subcommand_from compose' -l thin -d 'Leave out mappings that change no original'
 complete -c smap -n '__fish_seen_subcommand_from compose' -l used -d 'Leave out sources that no mapping has'

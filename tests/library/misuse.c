@@ -493,7 +493,7 @@ static const struct {
      "9:00 at f (http://h/m/a.js:11:3) {\n"},
     {"9:00 at f (http://h/m/out.js:1:2) {\n", SMAP_HIDE_IGNORED | SMAP_IGNORE_QUERY, SMAP_KEPT,
      "9:00 at f (http://h/m/out.js:1:2) {\n"},
-    {"9:00 at f (http://h/m/out.js:1:2) {\n", 0xfd, SMAP_KEPT, "9:00 at f (http://h/m/out.js:1:2) {\n"},
+    {"9:00 at f (http://h/m/out.js:1:2) {\n", 0xf5, SMAP_KEPT, "9:00 at f (http://h/m/out.js:1:2) {\n"},
     {"http://h/m/out.js:1:2 and http://h/m/out.js:1:5", SMAP_ANYWHERE, SMAP_TRANSLATED,
      "http://h/m/a.js:11:3 and http://h/m/a.js:13:3"},
     {"@http://h/m/out.js?v=3:1:2", SMAP_HIDE_IGNORED | SMAP_ANYWHERE, SMAP_KEPT,
@@ -504,7 +504,7 @@ static const struct {
      "9:00 http://h/m/a.js:11:3,"},
     {"@http://h/m/out.js:2:1\n", SMAP_ANYWHERE, SMAP_TRANSLATED, "@http://h/m/b.js:13:3\n"},
     {"@http://h/m/out.js:2:1\n", SMAP_HIDE_IGNORED, SMAP_DROPPED, ""},
-    {"@http://h/m/out.js:2:1\n", 0xf9, SMAP_DROPPED, ""},
+    {"@http://h/m/out.js:2:1\n", 0xf1, SMAP_DROPPED, ""},
     {"@http://h/m/out.js:2:1\n", SMAP_HIDE_IGNORED | SMAP_ANYWHERE, SMAP_DROPPED, ""},
     {"9:00 http://h/m/out.js:2:1 {\n", SMAP_HIDE_IGNORED | SMAP_ANYWHERE, SMAP_TRANSLATED,
      "9:00 http://h/m/b.js:13:3 {\n"},
@@ -542,6 +542,29 @@ static void ways_of(smap_map *map)
         if (failures > before) printf("  %s by %d\n", ways[i].line, ways[i].how);
     }
     smap_close_scripts(&scripts);
+}
+
+/* A frame gets the name of a function in a line by itself, and in a trace. */
+static void names_of(void)
+{
+    static const char line[] = "@u:1:1\n", told[] = "total@http://h/m/a.js:1:20\n";
+    smap_map map = {0};
+    smap_scripts scripts = {0};
+    smap_bytes out = {0};
+    char room[64];
+    size_t len, told_len = strlen(told);
+    uint32_t outcome;
+    CHECK(open_text(&map, "{\"version\":3,\"sources\":[\"a.js\"],\"mappings\":\"AAAmB\","
+                          "\"sourcesContent\":[\"function total() { f(); }\"]}", NULL) == SMAP_OK);
+    CHECK(smap_translate_line(&map, "u", 1, line, strlen(line), SMAP_NAMES, room, sizeof room, &len,
+                              &outcome) == SMAP_OK);
+    CHECK(outcome == SMAP_TRANSLATED && len == told_len && memcmp(room, told, len) == 0);
+    CHECK(smap_add_script(&scripts, "u", 1, &map) == SMAP_OK);
+    CHECK(smap_translate(&scripts, line, strlen(line), SMAP_NAMES, &out, NULL) == SMAP_OK);
+    CHECK(smap_bytes_copy(&out, 0, room, sizeof room) == told_len && memcmp(room, told, told_len) == 0);
+    smap_bytes_free(&out);
+    smap_close_scripts(&scripts);
+    smap_close(&map);
 }
 
 /* The two functions of the library as version 0.1 declared them, which what was compiled then still calls. */
@@ -591,6 +614,7 @@ int main(void)
     script_maps();
     file_kinds();
     ways_of(&map);
+    names_of();
     callers_with_bool(&map);
     faults();
     bytes_of_urls();

@@ -200,6 +200,17 @@ class ModuleTest(unittest.TestCase):
         self.assertEqual(told, b"9:00 http://h/m/b.js:13:3 {\n")
         self.assertEqual((counts.lines, counts.translated, counts.dropped), (2, 1, 1))
 
+    def test_frames_get_the_names_of_functions(self):
+        source = b'"sources":["a.js"],"sourcesContent":["function total() { f(); }"]'
+        text = b'{"version":3,%s,"mappings":"AAAmB"}' % source
+        line, told = b"    at t (u:1:1)\n", b"    at total (http://h/m/a.js:1:20)\n"
+        with smap.Map.open(text, BASE) as named:
+            self.assertEqual(named.translate_line(line, "u", names=True), told)
+            self.assertEqual(named.translate_line(line, "u"), told.replace(b"total", b"t"))
+            self.assertEqual(named.translate(line.decode(), "u", names=True), told.decode())
+            with smap.Scripts({"u": named}) as scripts:
+                self.assertEqual(scripts.translate(line, names=True)[0], told)
+
     def test_hide_may_be_passed_by_its_place(self):
         self.assertIsNone(self.map.translate_line(b"@u:2:1", "u", True))
         self.assertEqual(self.map.translate_line(b"@u:2:1", "u", False), b"@http://h/m/b.js:13:3")

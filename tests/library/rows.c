@@ -97,6 +97,7 @@ static uint8_t how_by(int argc, char **argv)
         if (!strcmp(argv[i], "--hide-ignored")) how |= SMAP_HIDE_IGNORED;
         if (!strcmp(argv[i], "--anywhere")) how |= SMAP_ANYWHERE;
         if (!strcmp(argv[i], "--ignore-query")) how |= SMAP_IGNORE_QUERY;
+        if (!strcmp(argv[i], "--names")) how |= SMAP_NAMES;
     }
     return how;
 }

@@ -36,8 +36,8 @@ def translated(data, flags):
         scripts.add(url, open_maps[-1])
         data = data[int(length) + 1 :]
     anywhere, ignore_query = "--anywhere" in flags, "--ignore-query" in flags
-    hide = "--hide-ignored" in flags
-    return scripts.translate(data[6:], hide, anywhere=anywhere, ignore_query=ignore_query)[0]
+    hide, names = "--hide-ignored" in flags, "--names" in flags
+    return scripts.translate(data[6:], hide, anywhere=anywhere, ignore_query=ignore_query, names=names)[0]
 
 
 def named(data):

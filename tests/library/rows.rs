@@ -61,6 +61,7 @@ fn translated(mut data: &[u8], flags: &[String]) -> Result<Vec<u8>, Error> {
         hide: is_set("--hide-ignored"),
         anywhere: is_set("--anywhere"),
         ignore_query: is_set("--ignore-query"),
+        names: is_set("--names"),
     };
     scripts.translate(&data[6..], options).map(|told| told.0)
 }

@@ -124,10 +124,15 @@ fn options(map: &Map) -> Result<(), Error> {
     assert_eq!(map.translate_line("u", b"@u:2:1", hide)?, Line::Dropped);
     let mut scripts = Scripts::new();
     scripts.add("u", map)?;
-    let all = TraceOptions { hide: true, anywhere: true, ignore_query: true };
+    let all = TraceOptions { hide: true, anywhere: true, ignore_query: true, names: false };
     let counts = TraceCounts { lines: 2, translated: 1, dropped: 1 };
     let told = b"9:00 http://h/m/b.js:13:3 {\n".to_vec();
     assert_eq!(scripts.translate(b"@u:2:1\n9:00 u?v=3:2:1 {\n", all)?, (told, counts));
+    let names = TraceOptions { names: true, ..TraceOptions::default() };
+    let text = br#"{"version":3,"sources":["a.js"],"sourcesContent":["function total() { f(); }"],
+        "mappings":"AAAmB"}"#;
+    let told = Line::Translated(b"total@http://h/m/a.js:1:20".to_vec());
+    assert_eq!(Map::open(text, BASE)?.translate_line("u", b"@u:1:1", names)?, told);
     Ok(())
 }
 

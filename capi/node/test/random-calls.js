@@ -202,6 +202,7 @@ const MAP_CALLS = {
 
 const ways = given => ({
   hideIgnored: given.next(2) === 0, anywhere: given.next(2) === 0, ignoreQuery: given.next(2) === 0,
+  names: given.next(2) === 0,
 });
 
 // What holds of any name, or of any text.

@@ -11,7 +11,8 @@ from pathlib import Path
 from typing import Any, Callable, ClassVar, NoReturn, Optional, Tuple, Type, TypeVar
 
 from . import _declarations as declared
-from ._declarations import ANYWHERE, HIDE_IGNORED, IGNORE_QUERY, LIMITS, MEMORY, OK, RANGE, REFUSED, Fault
+from ._declarations import ANYWHERE, HIDE_IGNORED, IGNORE_QUERY, LIMITS, MEMORY, NAMES, OK, RANGE, REFUSED
+from ._declarations import Fault
 
 # The greatest numbers that the types of the library hold. ctypes cuts off the bits above them.
 LARGEST_U32, LARGEST_SIZE = 0xFFFFFFFF, c_size_t(-1).value
@@ -255,9 +256,10 @@ def taken(out: declared.Bytes) -> bytes:
         lib.smap_bytes_free(byref(out))
 
 
-def how_bits(hide: bool, anywhere: bool, ignore_query: bool) -> int:
+def how_bits(hide: bool, anywhere: bool, ignore_query: bool, names: bool) -> int:
     """How a trace is translated, as one number."""
-    return HIDE_IGNORED * bool(hide) | ANYWHERE * bool(anywhere) | IGNORE_QUERY * bool(ignore_query)
+    found = HIDE_IGNORED * bool(hide) | ANYWHERE * bool(anywhere) | IGNORE_QUERY * bool(ignore_query)
+    return found | NAMES * bool(names)
 
 
 def version() -> str:

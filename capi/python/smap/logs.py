@@ -43,6 +43,7 @@ class Way:
     hide: bool
     anywhere: bool
     ignore_query: bool
+    names: bool
 
 
 def whole_lines(source: BinaryIO, most: int = BLOCK) -> Iterator[bytes]:

@@ -254,12 +254,19 @@ class Map(Owner):
         return written(self._call, lib.smap_canonical_relative if relative else lib.smap_canonical)
 
     def translate_line(
-        self, line: bytes, url: str, hide: bool = False, *, anywhere: bool = False, ignore_query: bool = False
+        self,
+        line: bytes,
+        url: str,
+        hide: bool = False,
+        *,
+        anywhere: bool = False,
+        ignore_query: bool = False,
+        names: bool = False,
     ) -> Optional[bytes]:
         """What to write for a line of a trace, this being the map of `url`; None where it is dropped."""
         line, script = as_data("a line", line), as_url("the name of a script", url)
         n, became, room = c_size_t(), c_uint32(), len(line) + 512
-        how = how_bits(hide, anywhere, ignore_query)
+        how = how_bits(hide, anywhere, ignore_query, names)
         while True:
             out = create_string_buffer(room)
             words = script, len(script), line, len(line), how, out, room, byref(n), byref(became)
@@ -276,9 +283,12 @@ class Map(Owner):
         *,
         anywhere: bool = False,
         ignore_query: bool = False,
+        names: bool = False,
     ) -> AnyStr:
         """A whole trace, with the positions in the script at `url` replaced by those in the sources.
 
         The words are those of `smap.translate`. A str gives a str, bytes give bytes.
         """
-        return translate(trace, {url: self}, hide, anywhere=anywhere, ignore_query=ignore_query)
+        return translate(
+            trace, {url: self}, hide, anywhere=anywhere, ignore_query=ignore_query, names=names
+        )

@@ -192,7 +192,13 @@ class Store:
     # ---- logs
 
     def translate(
-        self, log: AnyStr, hide: bool = False, *, anywhere: bool = False, ignore_query: bool = False
+        self,
+        log: AnyStr,
+        hide: bool = False,
+        *,
+        anywhere: bool = False,
+        ignore_query: bool = False,
+        names: bool = False,
     ) -> AnyStr:
         """A whole log with its positions replaced by those in the sources.
 
@@ -203,10 +209,12 @@ class Store:
         """
         if isinstance(log, str):
             data = log.encode("utf-8", "surrogateescape")
-            told = self.translate(data, hide, anywhere=anywhere, ignore_query=ignore_query)
+            told = self.translate(data, hide, anywhere=anywhere, ignore_query=ignore_query, names=names)
             return told.decode("utf-8", "surrogateescape")
         out = io.BytesIO()
-        self.translate_file(io.BytesIO(log), out, hide, anywhere=anywhere, ignore_query=ignore_query)
+        self.translate_file(
+            io.BytesIO(log), out, hide, anywhere=anywhere, ignore_query=ignore_query, names=names
+        )
         return out.getvalue()
 
     def translate_file(
@@ -217,6 +225,7 @@ class Store:
         *,
         anywhere: bool = False,
         ignore_query: bool = False,
+        names: bool = False,
     ) -> StoreCounts:
         """Translates a log from one binary file to another, and returns the counts of its lines.
 
@@ -225,7 +234,7 @@ class Store:
         """
         if anywhere and not hasattr(self._finder, "named_in"):
             raise ValueError("anywhere needs a finder with a method named_in")
-        way, counts = Way(hide, anywhere, ignore_query), StoreCounts()
+        way, counts = Way(hide, anywhere, ignore_query, names), StoreCounts()
         call = _Call(MOST_ALIKE if anywhere else None)
         try:
             for block in whole_lines(source):
@@ -250,7 +259,7 @@ class Store:
             rest, more = self._translated(block[cut:], call, way)
             return first + rest, counts + more
         told, seen = call.scripts.translate(
-            block, way.hide, anywhere=way.anywhere, ignore_query=way.ignore_query
+            block, way.hide, anywhere=way.anywhere, ignore_query=way.ignore_query, names=way.names
         )
         return told, self._counted(call, named, seen)
 
@@ -260,9 +269,9 @@ class Store:
         A frame that they translate names no other script, so only lines that stay are looked at, unless the
         way of translating allows several scripts for a line, or leaves lines out.
         """
-        if way != Way(False, False, False) or not call.names:
+        if way.hide or way.anywhere or way.ignore_query or not call.names:
             return None
-        told, seen = call.scripts.translate(block)
+        told, seen = call.scripts.translate(block, names=way.names)
         named = self._named(lines_that_stay(block, told), way, block)
         if any(script not in call.names and script not in call.absent for (script,), _ in named):
             return None

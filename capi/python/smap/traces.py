@@ -76,14 +76,20 @@ class Scripts(Owner):
             check(self._call(lib.smap_add_script, name, len(name), byref(script._handle)))
 
     def translate(
-        self, trace: bytes, hide: bool = False, *, anywhere: bool = False, ignore_query: bool = False
+        self,
+        trace: bytes,
+        hide: bool = False,
+        *,
+        anywhere: bool = False,
+        ignore_query: bool = False,
+        names: bool = False,
     ) -> Tuple[bytes, TraceCounts]:
         """A whole trace with its positions replaced by those in the sources, and the counts of its lines.
 
         The words are those of `smap.translate`.
         """
         trace, out, counts = as_data("a trace", trace), declared.Bytes(), TraceCounts()
-        how = how_bits(hide, anywhere, ignore_query)
+        how = how_bits(hide, anywhere, ignore_query, names)
         code = self._call(lib.smap_translate, trace, len(trace), how, byref(out), byref(counts))
         if code == CLOSED:  # there are no scripts
             return trace, TraceCounts(trace.count(b"\n") + (trace[-1:] not in (b"", b"\n")), 0, 0)
@@ -98,16 +104,20 @@ def translate(
     *,
     anywhere: bool = False,
     ignore_query: bool = False,
+    names: bool = False,
 ) -> AnyStr:
     """A whole trace with its positions replaced by those in the sources, by maps keyed by their script's URL.
 
     `hide` drops frames in ignored sources. Lines that are frames have a position; with `anywhere`, positions
     are found anywhere in a line. With `ignore_query`, a query and a fragment may follow the URL of a script.
+    With `names`, frames get the names of functions, where these are sure.
     A str gives a str, bytes give bytes.
     """
     if isinstance(trace, str):
         data = trace.encode("utf-8", "surrogateescape")
-        told = translate(data, scripts, hide, anywhere=anywhere, ignore_query=ignore_query)
+        told = translate(data, scripts, hide, anywhere=anywhere, ignore_query=ignore_query, names=names)
         return told.decode("utf-8", "surrogateescape")
     with Scripts(scripts) as known:
-        return known.translate(trace, hide, anywhere=anywhere, ignore_query=ignore_query)[0]
+        return known.translate(
+            trace, hide, anywhere=anywhere, ignore_query=ignore_query, names=names
+        )[0]

@@ -114,6 +114,12 @@ fn tool_of<'a>(
     Ok(Some((tool, own)))
 }
 
+/// Says that memory ran out, and answers the exit status.
+fn out_of_memory(rt: &HostRuntime) -> u8 {
+    let _ = eprint!(rt; "{OUT_OF_MEMORY}");
+    4
+}
+
 /// Says what is wrong with the arguments, which a stranger may have chosen, and answers the exit status.
 fn refuse(rt: &HostRuntime, error: &Error) -> u8 {
     let text = match format!(in rt.alloc(); "{error}") {
@@ -125,10 +131,7 @@ fn refuse(rt: &HostRuntime, error: &Error) -> u8 {
             let _ = eprint!(rt; "{text}");
             2
         }
-        Err(_) => {
-            let _ = eprint!(rt; "{OUT_OF_MEMORY}");
-            4
-        }
+        Err(_) => out_of_memory(rt),
     }
 }
 
@@ -178,8 +181,7 @@ fn map(rt: &HostRuntime, words: &[&str]) -> u8 {
         Ok(task) => {
             advise(rt, &task);
             let Ok(input) = BufReader::new(rt.alloc(), rt.reader()) else {
-                let _ = eprint!(rt; "{OUT_OF_MEMORY}");
-                return 4;
+                return out_of_memory(rt);
             };
             let mut reader = Device::new(input);
             let mut writer = Device::new(io::writer(rt));
@@ -196,56 +198,59 @@ fn map(rt: &HostRuntime, words: &[&str]) -> u8 {
                 help(rt, &error)
             }
         }
-        Err(WordsFault::Memory) => {
-            let _ = eprint!(rt; "{OUT_OF_MEMORY}");
-            4
-        }
+        Err(WordsFault::Memory) => out_of_memory(rt),
     }
 }
 
-/// Says that memory ran out, and answers the exit status.
-fn out_of_memory(rt: &HostRuntime) -> ExitCode {
-    let _ = eprint!(rt; "{OUT_OF_MEMORY}");
-    ExitCode::from(4)
+/// Runs a program over files, unless it could write nothing.
+fn run_tool(rt: &HostRuntime, tool: Tool, words: &[&str]) -> u8 {
+    let disk = System::new(rt);
+    if is_output_closed(&disk) {
+        let name = tool.name();
+        let _ = eprint!(rt; "{name}: cannot write: standard output is closed\n");
+        return 3;
+    }
+    let input = input(rt, &disk);
+    let held = placeholders(rt.alloc(), &disk);
+    let writer = io::writer(rt);
+    let status = match tool {
+        Tool::Trace => smap_trace_run::run(rt, &disk, words, input, &mut Output::new(writer)),
+        Tool::Maps => {
+            let output = &mut Watched::new(writer);
+            smap_maps_run::run(rt, &disk, words, rt.stderr().is_terminal(), output)
+        }
+        Tool::View => {
+            let output = &mut Watched::new(writer);
+            smap_view_run::run(rt, &disk, words, rt.stdout().is_terminal(), output)
+        }
+    };
+    drop(held);
+    status
+}
+
+/// Runs the program that these words call.
+fn run_words(rt: &HostRuntime, words: &[&str]) -> u8 {
+    match tool_of(rt.alloc(), words) {
+        Ok(Some((tool, own))) => run_tool(rt, tool, own.as_slice()),
+        Ok(None) => map(rt, words),
+        Err(_) => out_of_memory(rt),
+    }
 }
 
 fn main(rt: HostRuntime) -> ExitCode {
     let words = match arguments(&rt) {
         Ok(words) => words,
-        Err(error) if error.kind() == ErrorKind::OutOfMemory => return out_of_memory(&rt),
+        Err(error) if error.kind() == ErrorKind::OutOfMemory => {
+            return ExitCode::from(out_of_memory(&rt));
+        }
         Err(_) => {
             let _ = eprint!(rt; "error: invalid UTF-8 was detected in one or more arguments\n");
             return ExitCode::from(2);
         }
     };
-    let Ok(words) = texts(rt.alloc(), words.as_slice()) else {
-        return out_of_memory(&rt);
+    let status = match texts(rt.alloc(), words.as_slice()) {
+        Ok(words) => run_words(&rt, words.as_slice()),
+        Err(_) => out_of_memory(&rt),
     };
-    let (tool, words) = match tool_of(rt.alloc(), words.as_slice()) {
-        Ok(Some(called)) => called,
-        Ok(None) => return ExitCode::from(map(&rt, words.as_slice())),
-        Err(_) => return out_of_memory(&rt),
-    };
-    let disk = System::new(&rt);
-    if is_output_closed(&disk) {
-        let name = tool.name();
-        let _ = eprint!(rt; "{name}: cannot write: standard output is closed\n");
-        return ExitCode::from(3);
-    }
-    let input = input(&rt, &disk);
-    let held = placeholders(rt.alloc(), &disk);
-    let (words, writer) = (words.as_slice(), io::writer(&rt));
-    let status = match tool {
-        Tool::Trace => smap_trace_run::run(&rt, &disk, words, input, &mut Output::new(writer)),
-        Tool::Maps => {
-            let output = &mut Watched::new(writer);
-            smap_maps_run::run(&rt, &disk, words, rt.stderr().is_terminal(), output)
-        }
-        Tool::View => {
-            let output = &mut Watched::new(writer);
-            smap_view_run::run(&rt, &disk, words, rt.stdout().is_terminal(), output)
-        }
-    };
-    drop(held);
     ExitCode::from(status)
 }

@@ -1,19 +1,21 @@
 //! Scripts, each a URL and a map, and the translation of a whole trace by them.
 ghost use Rattle.std.specs.Prelude.{◌≡◌, [], Some, None, IfOk, IsTrue, OnOk, OnErr, option_map};
 ghost use Rattle.smap_record.specs.Record.{record_of};
+ghost use Rattle.smap_trace.specs.Giving.{Give, no_counts};
 ghost use Rattle.smap_trace.specs.Scripts.{with_script};
-ghost use Rattle.smap_c.specs.Scripts.{Adds, AddsScript, reported_counts, reported_trace};
+ghost use Rattle.smap_trace.specs.Translation.{lines_of};
+ghost use Rattle.smap_c.specs.Scripts.{Adds, AddsScript, IsTranslation, reported_counts, reported_trace};
 ghost use Rattle.smap_c.specs.Scripts.{TranslatesInto, TranslatesBy};
 ghost use Rattle.smap_c.specs.Handles.{held_bytes, held_map, held_scripts, is_scripts};
-ghost use Rattle.smap_c.specs.Traces.{fates};
+ghost use Rattle.smap_c.specs.Traces.{MayBeNamed, fates, names};
 
 use crate::handles::{Held, SmapBytes, SmapMap, SmapScripts};
 use crate::maps::Shared;
-use crate::traces::{hides, mode_in};
+use crate::traces::{hides, mode_in, names};
 use smap_c_answers::{CLOSED, MEMORY, NOT_URL, OK};
 use smap_io::Device;
 use smap_mappings::Memory;
-use smap_trace::{Counts, Scripts, translate_in};
+use smap_trace::{Counts, Scripts, translate_in, translate_named_in};
 use std::alloc::Global;
 use std::{mem, str};
 
@@ -144,6 +146,48 @@ fn translated(
     }
 }
 
+/// The same with the names of functions.
+fn translated_named(
+    alloc: Global,
+    scripts: &Scripts<Shared>,
+    trace: &[u8],
+    how: u8,
+) -> Result<(Vec<u8>, Counts), Memory>
+    ensures { IfOk result (λ told. Give (MayBeNamed how scripts.now) (lines_of trace.now) told.0.items
+        no_counts told.1) }
+{
+    let mut reader = Device::new(trace);
+    let mut writer = Device::new(Vec::new(alloc));
+    match translate_named_in(
+        alloc,
+        &mut reader,
+        scripts,
+        mode_in(how),
+        hides(how),
+        &mut writer,
+    ) {
+        Ok(counts) => Ok((writer.into_inner(), counts)),
+        Err(_) => Err(Memory),
+    }
+}
+
+/// The translation of a trace as it is asked for, and its counts.
+fn translation(
+    alloc: Global,
+    scripts: &Scripts<Shared>,
+    trace: &[u8],
+    how: u8,
+) -> Result<(Vec<u8>, Counts), Memory>
+    ensures { IfOk result (λ told. IsTranslation (names how) how scripts.now trace.now
+        (told.0.items, told.1)) }
+{
+    if names(how) {
+        translated_named(alloc, scripts, trace, how)
+    } else {
+        translated(alloc, scripts, trace, how)
+    }
+}
+
 /// Puts the translation into a handle.
 fn translate_into(
     alloc: Global,
@@ -153,10 +197,10 @@ fn translate_into(
     out: &mut SmapBytes,
     counts: &mut SmapTraceCounts,
 ) -> u32
-    ensures { TranslatesInto (reported_trace (fates how scripts.now) trace.now)
+    ensures { TranslatesInto scripts.now trace.now how
         (held_bytes out.old.owner.value) (held_bytes out.new.owner.value) counts.old counts.new result }
 {
-    let Ok((bytes, reported)) = translated(alloc, scripts, trace, how) else {
+    let Ok((bytes, reported)) = translation(alloc, scripts, trace, how) else {
         return MEMORY;
     };
     let Ok(held) = Held::Bytes(bytes).boxed(alloc) else {

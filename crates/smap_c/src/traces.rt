@@ -1,12 +1,16 @@
 //! The calls on the lines of a trace.
-ghost use Rattle.std.specs.Prelude.{◌≡◌};
-ghost use Rattle.smap_c.specs.Traces.{mode_in, hides, FrameReported, LineReported, LineBy, ReportsLine};
+ghost use Rattle.std.specs.Prelude.{◌≡◌, ◌∷◌, [], IfOk};
+ghost use Rattle.smap_record.specs.Record.{record_of};
+ghost use Rattle.smap_trace.specs.Giving.{Becomes};
+ghost use Rattle.smap_c.specs.Traces.{mode_in, hides, names, FrameReported, LineReported, LineBy, MayBe};
+ghost use Rattle.smap_c.specs.Traces.{ReportsLine};
 ghost use Rattle.smap_c.specs.Handles.{held_map};
 
 use crate::handles::SmapMap;
 use smap_c_answers::{CLOSED, MEMORY, NONE, NOT_URL, OK, copy_out};
+use smap_mappings::Memory;
 use smap_record::SourceMap;
-use smap_trace::{LineOutcome, MatchMode, frame, translate_line_by};
+use smap_trace::{LineOutcome, MatchMode, frame, translate_line_by, translate_named_line};
 use std::alloc::Global;
 use std::{mem, str};
 
@@ -65,6 +69,37 @@ pub(crate) fn mode_in(how: u8) -> MatchMode
     }
 }
 
+/// Frames get the names of functions.
+const NAMES: u8 = 8;
+
+/// Whether frames get the names of functions.
+pub(crate) fn names(how: u8) -> bool
+    ensures { result ≡ names how }
+{
+    how & NAMES == NAMES
+}
+
+/// Appends the translation of a line.
+fn translate(
+    alloc: Global,
+    map: &SourceMap,
+    url: &str,
+    line: &[u8],
+    how: u8,
+    text: &mut Vec<u8>,
+) -> Result<LineOutcome, Memory>
+    ensures { IfOk result (λ o. Becomes (MayBe (names how) how ((url.now, record_of map.now) ∷ [])) line.now
+        text.old.items text.new.items o) }
+{
+    let scripts = [(url, map)];
+    let (mode, hide) = (mode_in(how), hides(how));
+    if names(how) {
+        translate_named_line(alloc, line, &scripts, mode, hide, text)
+    } else {
+        translate_line_by(line, &scripts, mode, hide, text)
+    }
+}
+
 /// The translation of a line and what became of it: 0 kept, 1 translated, 2 dropped.
 fn line_of(
     alloc: Global,
@@ -80,7 +115,7 @@ fn line_of(
         result }
 {
     let mut text = Vec::new(alloc);
-    match translate_line_by(line, &[(url, map)], mode_in(how), hides(how), &mut text) {
+    match translate(alloc, map, url, line, how, &mut text) {
         Ok(became) => {
             *outcome = match became {
                 LineOutcome::Kept => 0,

@@ -1,3 +1,2 @@
 pub mod NamedLemmas
-pub mod OpeningLemmas
 pub mod PickLemmas

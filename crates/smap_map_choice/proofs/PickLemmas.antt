@@ -1,29 +1,14 @@
 -- Lists of places and of picks that grow by one.
 use Rattle.std.proofs.Common.{◌≡◌, ◌∙◌, ℕ, ◌+◌, ◌<◌, Bool, Bor, List, [], ◌∷◌, ◌++◌, length, get_or, map}
-use Rattle.std.proofs.Common.{take, ap, sym, subst, append_assoc}
+use Rattle.std.proofs.Common.{take, ap, sym, subst}
 use Rattle.std.specs.List.{All}
 use Rattle.std.proofs.lemmas.List.Elements.{All-push}
 use Rattle.std.proofs.lemmas.List.{map-append, take_more}
 use Rattle.smap_map_choice.specs.Picks.{ArePicks, IsFound, IsPick}
 use Rattle.smap_map_choice.specs.PlaceView.{place_in, places_in}
-use Rattle.smap_map_choice.specs.Places.{MapPlace, folder_place, folder_places, scripts_of}
+use Rattle.smap_map_choice.specs.Places.{MapPlace, scripts_of}
 use Rattle.smap_map_choice.specs.declared.picks.Pick.{Pick}
 use Rattle.smap_map_choice.specs.declared.places.Place.{Place}
-
-pub one_more_place : (url folder : List ℕ) (names : List (List ℕ)) (i : ℕ) → i < length names
-    → (before : List MapPlace) (now after : List Place) (place : Place) (name : List ℕ)
-    → after ≡ now ++ place ∷ [] → name ≡ get_or names i [] → place_in place ≡ folder_place url folder name
-    → places_in now ≡ before ++ folder_places url folder (take i names)
-    → places_in after ≡ before ++ folder_places url folder (take (i + 1) names)
-one_more_place url folder names i lt before now after place name is named made was =
-    ap places_in is ∙ map-append place_in now (place ∷ [])
-    ∙ ap (λ (l : List MapPlace). l ++ place_in place ∷ []) was
-    ∙ append_assoc before (folder_places url folder (take i names)) (place_in place ∷ [])
-    ∙ ap (λ (p : MapPlace). before ++ (folder_places url folder (take i names) ++ p ∷ []))
-    (made ∙ ap (folder_place url folder) named)
-    ∙ ap (λ (l : List MapPlace). before ++ l)
-    (sym (map-append (folder_place url folder) (take i names) (get_or names i [] ∷ [])))
-    ∙ ap (λ (l : List (List ℕ)). before ++ folder_places url folder l) (sym (take_more names i [] lt))
 
 abbrev pub shown : List (Bor (List ℕ)) → List (List ℕ)
 shown names = map (λ s. s.now) names

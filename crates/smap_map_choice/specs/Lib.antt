@@ -1,7 +1,5 @@
 pub mod Picks
 pub mod Linked
-pub mod Memory
-pub mod Opening
 pub mod Places
 pub mod PlaceView
 pub mod Named

@@ -1,11 +1,12 @@
 -- Which map a script has that a log names.
-use Rattle.std.specs.Prelude.{◌≡◌, ℕ, Bool, List, map, Option, None, Some}
-use Rattle.std.specs.List.{All}
+use Rattle.std.specs.Prelude.{◌≡◌, ℕ, Bool, List, map, Option, None, Some, option_map}
+use Rattle.std.specs.List.{All, slice_get}
 use Rattle.smap_link.specs.Choice.{alike_to, first_of, or_else}
 use Rattle.smap_link.specs.Ends.{script_path, stem}
 use Rattle.smap_link.specs.Likeness.{IsMostAlike}
 use Rattle.smap_link.specs.declared.likeness.Likeness.{Likeness}
 use Rattle.smap_link.specs.declared.likeness.Likeness.TheVariants as ends
+use Rattle.smap_map_choice.specs.Places.{MapPlace, usual_place}
 use Rattle.smap_map_choice.specs.declared.picks.Found.{Found}
 use Rattle.smap_map_choice.specs.declared.picks.Found.TheVariants.{Given, ByEnd, Unclear, Missing}
 use Rattle.smap_map_choice.specs.declared.picks.Pick.{Pick}
@@ -46,3 +47,10 @@ pub record ArePicks (ignore_query : Bool) (scripts files names : List (List ℕ)
     (picks : List Pick) : Type 0 where
   pub named : map (λ pick. pick.name.now) picks ≡ names
   pub each : All (IsPick ignore_query scripts files) picks
+
+-- The map of what was found for a name.
+abbrev pub found_place : List MapPlace → List (List ℕ) → List ℕ → Found → Option MapPlace
+found_place places files name (Given i) = slice_get places i
+found_place places files name (ByEnd i) = option_map (usual_place name) (slice_get files i)
+found_place places files name (Unclear i j) = None
+found_place places files name Missing = None

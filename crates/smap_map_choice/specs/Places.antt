@@ -31,10 +31,6 @@ below folder name = cond (is_open folder) (folder ++ name) ((folder ++ codes "/"
 abbrev pub folder_place : List ℕ → List ℕ → List ℕ → MapPlace
 folder_place url folder name = usual_place (script_url url (stem name)) (below folder name)
 
--- The maps with these names.
-abbrev pub folder_places : List ℕ → List ℕ → List (List ℕ) → List MapPlace
-folder_places url folder names = map (folder_place url folder) names
-
 -- The names of the scripts.
 abbrev pub scripts_of : List MapPlace → List (List ℕ)
 scripts_of places = map (λ place. place.script) places

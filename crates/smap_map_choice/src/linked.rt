@@ -8,7 +8,7 @@ use std::alloc::{AllocError, Global};
 
 /// Why a URL that a script names gives no file of its folder.
 #[derive(Clone, Copy, Debug, PartialEq, Eq)]
-pub enum LinkedFault {
+pub(crate) enum LinkedFault {
     /// With the script's URL before it, it is no URL.
     NotUrl,
     /// It stands for no file below the folder.
@@ -113,7 +113,7 @@ fn url_from(alloc: Global, script: &[u8], url: &[u8]) -> Result<String, LinkedFa
 /// # Errors
 ///
 /// `NotUrl`, `Leaves`, `Memory`.
-pub fn linked_name(
+pub(crate) fn linked_name(
     alloc: Global,
     folder: &[u8],
     name: &[u8],

@@ -4,7 +4,6 @@ use Rattle.std.specs.Prelude.{is_some}
 use Rattle.std.proofs.Common.{Result, Ok, Err, IfOk, IfSome, IsSome, MatchOption, ap, refl}
 use Rattle.std.specs.Global.{Vec}
 use Rattle.smap_system.specs.Held.{Held, IsHeld}
-use Rattle.smap_map_choice.specs.Opening.{IsMadeOf}
 use Rattle.smap_map_choice.specs.Places.{MapPlace}
 use Rattle.smap_link.specs.Kinds.{file_kind}
 use Rattle.smap_mappings.specs.Widths.{script_widths}
@@ -14,8 +13,8 @@ use Rattle.smap_map_files.specs.declared.loading.Loaded.{Loaded}
 use Rattle.smap_map_files.specs.declared.loading.Loaded.TheVariants as loaded
 use Rattle.smap_map_files.specs.declared.loading.MapFault.{MapFault}
 use Rattle.smap_map_files.specs.declared.loading.Reading.{Reading}
-use Rattle.smap_map_files.specs.Given.{Folder, Holds, IsContent, IsLoaded, IsLoadedTo, IsRead, IsReadTo}
-use Rattle.smap_map_files.specs.Given.{IsUnread, Names, NamesNothing, NamesUnfound}
+use Rattle.smap_map_files.specs.Given.{Folder, Holds, IsContent, IsLoaded, IsLoadedTo, IsMadeOf, IsRead}
+use Rattle.smap_map_files.specs.Given.{IsReadTo, IsUnread, Names, NamesNothing, NamesUnfound}
 use Rattle.smap_map_files.specs.Given.{ended_loaded, ends_of, folder_for, has_lines, linked_base}
 use Rattle.smap_map_files.specs.Opened.{AreEnds, GivesNone, IsFollowedUp, IsLeftOut, IsLink, IsOpened}
 use Rattle.smap_map_files.specs.Opened.{IsReached}
@@ -203,12 +202,12 @@ reached_by_script how (Some held) root has_base place it lies (inr (inr given)) 
 }))
 
 -- the same, of a script that is the one next to the map by equations
-pub script_gives : (how given : Reading) (held told : Held) (root home : Option Folder) (has_base with : Bool)
+pub script_gives : (how given : Reading) (held : Held) (root home : Option Folder) (has_base with : Bool)
     (place script : MapPlace) (it : Loaded) → may_lie_beside root place ≡ true → script ≡ script_beside place
-    → home ≡ root → with ≡ has_base → given ≡ how → told ≡ held
-    → IsFollowedUp given told home with script it → IsReached how held root has_base place it
-script_gives how given held told root home has_base with place script it lies s r b m h up =
-    reached_by_script how held root has_base place it lies (rw (m, h, r, b, s) at up)
+    → home ≡ root → with ≡ has_base → given ≡ how
+    → IsFollowedUp given held home with script it → IsReached how held root has_base place it
+script_gives how given held root home has_base with place script it lies s r b m up =
+    reached_by_script how held root has_base place it lies (rw (m, r, b, s) at up)
 
 pub left_out : (held : Held) (root : Option Folder) (place : MapPlace) (text : List ℕ)
     → IsHeld held place.file text

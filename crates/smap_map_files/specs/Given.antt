@@ -22,6 +22,7 @@ use Rattle.smap_map_choice.specs.Linked.{linked}
 use Rattle.smap_map_choice.specs.Named.{IsGarbled, IsInline, is_vain}
 use Rattle.smap_map_choice.specs.Places.{MapPlace, below}
 use Rattle.smap_mappings.specs.Widths.{script_widths}
+use Rattle.smap_system.specs.Held.{Held}
 use Rattle.smap_record.specs.Ends.{ended_map}
 use Rattle.smap_record.specs.Faults.{Checked}
 use Rattle.smap_record.specs.Record.{ReadMap, usual}
@@ -131,6 +132,12 @@ abbrev pub IsUnread : Loaded → Type 0
 IsUnread (loaded.Map m) = ⊥
 IsUnread (loaded.Mended m why) = ⊥
 IsUnread (loaded.Broken e) = IsUnreadBy e
+
+-- Where it is said what files hold, what a file gave is of this place.
+abbrev pub IsMadeOf : {M : Type 0} → ((List ℕ → Option (List ℕ)) → MapPlace → M → Type 0) → Held → MapPlace
+    → M → Type 0
+IsMadeOf made_of None place it = ⊤
+IsMadeOf made_of (Some held) place it = made_of held place it
 
 -- What became of the file of a map, where it is said what files hold.
 abbrev pub IsLoaded : Reading → (List ℕ → Option (List ℕ)) → MapPlace → Loaded → Type 0

@@ -14,29 +14,41 @@ pub fn with_slash(alloc: Global, text: &str) -> Result<String, AllocError> {
     format!(in alloc; "{text}/")
 }
 
+/// Why no path can be added to a URL of folders, as far as its bytes say.
+fn fault_in(base: &str) -> Option<&'static str> {
+    if base.contains(' ') || base.contains('\n') {
+        return Some("holds a space (in a URL that is %20)");
+    }
+    if base.contains('?') || base.contains('#') {
+        return Some("has a query or a fragment");
+    }
+    None
+}
+
+fn refuse_base<E: Eprint + AllocGlobal, D: Disk>(
+    host: &Host<'_, E, D>,
+    base: &str,
+    why: &str,
+) -> Stop {
+    match format!(in host.alloc(); "the base {why}: {base}") {
+        Ok(text) => host.fail(2, text.as_str()),
+        Err(_) => Stop::Memory,
+    }
+}
+
 /// The URL of folders that is given, unless a map's path can't be added to it.
 pub fn base_given<E: Eprint + AllocGlobal, D: Disk>(
     host: &Host<'_, E, D>,
     base: &str,
 ) -> Result<String, Stop> {
-    let alloc = host.alloc();
-    if base.contains(' ') || base.contains('\n') {
-        let text = format!(in alloc; "the base holds a space (in a URL that is %20): {base}")?;
-        return Err(host.fail(2, text.as_str()));
+    if let Some(why) = fault_in(base) {
+        return Err(refuse_base(host, base, why));
     }
-    if base.contains('?') || base.contains('#') {
-        let text = format!(in alloc; "the base has a query or a fragment: {base}")?;
-        return Err(host.fail(2, text.as_str()));
-    }
-    let base = with_slash(alloc, base)?;
-    match Base::new(alloc, base.as_str()) {
+    let base = with_slash(host.alloc(), base)?;
+    match Base::new(host.alloc(), base.as_str()) {
         Ok(_) => Ok(base),
         Err(BaseFault::Memory) => Err(Stop::Memory),
-        Err(BaseFault::NotUrl) => {
-            let base = base.as_str();
-            let text = format!(in alloc; "the base is no URL: {base}")?;
-            Err(host.fail(2, text.as_str()))
-        }
+        Err(BaseFault::NotUrl) => Err(refuse_base(host, base.as_str(), "is no URL")),
     }
 }
 

@@ -158,13 +158,12 @@ fn names_in<E: Eprint + AllocGlobal, D: Disk>(
     if has_map(host, path, names.as_slice())? {
         return Ok(names);
     }
-    let text = if only_links {
-        format!(in alloc;
-            "no *.map in {given}, which holds only links (those to folders aren't followed)"
-        )?
+    let links = if only_links {
+        ", which holds only links (those to folders aren't followed)"
     } else {
-        format!(in alloc; "no *.map in {given}")?
+        ""
     };
+    let text = format!(in alloc; "no *.map in {given}{links}")?;
     Err(host.fail(2, text.as_str()))
 }
 

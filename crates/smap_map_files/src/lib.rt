@@ -2,8 +2,8 @@
 //! holds or names ([`open_map_of`]); what the URL that a script names leads to, within its folder
 //! ([`target_of`]), and which map it has ([`map_of`]); and the URL of a folder's files ([`folder_url`]). What
 //! URL a text names is found by `smap_link`; which files are opened for a log is decided above. The file
-//! system is `smap_system`'s trait, so that tests have it in memory. What is wrong is said on standard error,
-//! with the status of that; of a map that is refused in the words of [`MapText::detail`].
+//! system is `smap_system`'s trait. What is wrong is said on standard error, with the status of that; of a
+//! map that is refused in the words of [`MapText::detail`].
 //!
 //! What the arguments of `smap-trace` name on the file system ([`wanted_by`]): maps of scripts, the files of
 //! folders, logs; and one map for each script of these ([`settle`]). How an argument is read is decided by
@@ -30,7 +30,7 @@ pub use arguments::wanted_by;
 pub use bases::{base_given, folder_url, with_slash};
 pub use folders::{name_of_file, without_slashes};
 pub use following::{Followed, follow};
-pub use loading::{Content, FileStore, Loaded, MapFault, NoFault, Reading};
+pub use loading::{Content, Loaded, MapFault, Reading};
 pub use map_text::MapText;
 pub use opening::{How, Subject, copied, open_map_of};
 pub use positions::{check_positions, log_of};

@@ -1,14 +1,12 @@
 //! The files of maps, read.
-ghost use Rattle.std.specs.Prelude.{◌≡◌, ◌++◌, ◌∷◌, [], IfOk, OnErr, OnOk, map};
-ghost use Rattle.smap_map_files.specs.Given.{IsContent, IsLoaded, IsRead, IsUnreadBy};
-ghost use Rattle.smap_map_choice.specs.Memory.{names_in};
-ghost use Rattle.smap_map_choice.specs.Opening.{IsMadeOf};
+ghost use Rattle.std.specs.Prelude.{IfOk};
+ghost use Rattle.smap_map_files.specs.Given.{IsContent, IsLoaded, IsMadeOf, IsRead, IsUnreadBy};
 ghost use Rattle.smap_map_choice.specs.PlaceView.{place_in};
 
 use crate::map_text::MapText;
 use crate::may_name_map;
 use smap_fault_places::detail;
-use smap_map_choice::{OpenFault, Place, Store};
+use smap_map_choice::Place;
 use smap_record::{Base, BaseFault, Fault, ReadError, SourceMap};
 use smap_system::{Disk, FileFault, Kind, LIMIT, read_file};
 use std::alloc::{AllocError, Global};
@@ -107,19 +105,6 @@ pub(crate) fn loaded_from(
     }
 }
 
-/// A fault that a store of files doesn't have: what is wrong with a file is in what it holds.
-#[derive(Clone, Copy, PartialEq, Eq)]
-pub struct NoFault;
-
-/// The files of a disk as maps and scripts.
-#[derive(Drop)]
-pub struct FileStore<'a, D> {
-    /// The disk that has them.
-    pub disk: &'a D,
-    /// The names of the files that were opened, in order.
-    opened: Vec<Vec<u8>>,
-}
-
 /// Why a file isn't read.
 fn unread(fault: FileFault) -> Result<MapFault, AllocError>
     ensures { IfOk result IsUnreadBy }
@@ -132,7 +117,7 @@ fn unread(fault: FileFault) -> Result<MapFault, AllocError>
 }
 
 /// The map that a file is, whatever its name, or what is wrong with it.
-fn load_map<D: Disk>(
+pub(crate) fn load_map<D: Disk>(
     alloc: Global,
     disk: &D,
     place: &Place,
@@ -150,7 +135,7 @@ fn load_map<D: Disk>(
 }
 
 /// What a file holds, read whole.
-fn load<D: Disk>(alloc: Global, disk: &D, place: &Place) -> Result<Content, AllocError>
+pub(crate) fn load<D: Disk>(alloc: Global, disk: &D, place: &Place) -> Result<Content, AllocError>
     ensures { IfOk result (IsMadeOf IsContent (D.held disk.now) (place_in place.now)) }
 {
     let Ok(file) = std::str::from_utf8(&place.file) else {
@@ -162,73 +147,5 @@ fn load<D: Disk>(alloc: Global, disk: &D, place: &Place) -> Result<Content, Allo
         }
         Ok(bytes) => Ok(Content::Bytes(bytes)),
         Err(fault) => Ok(Content::Unread(unread(fault)?)),
-    }
-}
-
-impl<'a, D> FileStore<'a, D> {
-    /// The files of this disk, of which none was opened.
-    pub fn new(alloc: Global, disk: &'a D) -> FileStore<'a, D>
-        ensures { result.disk.now ≡ disk.now }
-    {
-        FileStore {
-            disk,
-            opened: Vec::new(alloc),
-        }
-    }
-
-    /// Notes that this file is opened.
-    fn note(&mut self, alloc: Global, file: &[u8]) -> Result<(), AllocError>
-        ensures ok { OnOk result (names_in self.new.opened.items
-            ≡ names_in self.old.opened.items ++ file.now ∷ []) }
-        ensures err { OnErr result (self.new.opened.items ≡ self.old.opened.items) }
-        ensures disk { self.new.disk ≡ self.old.disk }
-    {
-        let text = Vec::from_slice(alloc, file)?;
-        match self.opened.push(text) {
-            Ok(()) => Ok(()),
-            Err(_) => Err(AllocError),
-        }
-    }
-
-    /// Opens the file of a map, whatever its name.
-    pub(crate) fn open_map(
-        &mut self,
-        alloc: Global,
-        place: &Place,
-        reading: Reading,
-    ) -> Result<Loaded, AllocError>
-    where
-        D: Disk,
-        ensures loaded { IfOk result
-            (IsMadeOf (IsLoaded reading) (D.held self.old.disk.now) (place_in place.now)) }
-        ensures disk { self.new.disk ≡ self.old.disk }
-    {
-        self.note(alloc, &place.file)?;
-        load_map(alloc, self.disk, place, reading)
-    }
-}
-
-impl<D: Disk> Store for FileStore<'_, D> {
-    ghost use Rattle.smap_map_files.specs.Given.{IsContent};
-    ghost use Rattle.smap_map_choice.specs.Memory.{names_in};
-
-    type Map = Content;
-
-    type Fault = NoFault;
-
-    ghost opened = { λ s. names_in s.opened.items };
-
-    ghost held = { λ s. D.held s.disk.now };
-
-    ghost made_of = { λ held place it. IsContent held place it };
-
-    fn open(&mut self, alloc: Global, place: &Place) -> Result<Content, OpenFault<NoFault>> {
-        let Ok(()) = self.note(alloc, place.file.as_slice()) else {
-            return Err(OpenFault::Memory);
-        };
-        match load(alloc, self.disk, place) {
-            Ok(content) => Ok(content),
-            Err(_) => Err(OpenFault::Memory),
-        }
     }
 }

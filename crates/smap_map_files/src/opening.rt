@@ -3,23 +3,23 @@ ghost use Rattle.std.specs.Prelude.{◌≡◌, ◌⊎◌, ◌<◌, ◌≤◌, co
 ghost use Rattle.smap_system.specs.Held.{IsHeld};
 ghost use Rattle.smap_link.specs.Kinds.{file_kind as spec_kind};
 ghost use Rattle.smap_map_files.specs.Given as spec;
-ghost use Rattle.smap_map_files.specs.Given.{IsContent, IsLoadedTo, IsRead, IsReadTo, ended_loaded};
+ghost use Rattle.smap_map_files.specs.Given.{IsContent, IsLoadedTo, IsMadeOf, IsRead, IsReadTo};
+ghost use Rattle.smap_map_files.specs.Given.{ended_loaded};
 ghost use Rattle.smap_map_files.specs.Opened.{AreEnds, GivesNone, IsFollowedUp, IsLeftOut, IsLink, IsOpened};
 ghost use Rattle.smap_map_files.specs.Opened.{IsReached, with_base, within_base};
 ghost use Rattle.smap_map_files.specs.SubjectView.{IsScriptBeside, widths_in};
 ghost use Rattle.smap_map_files.specs.RootView.{folder_of};
-ghost use Rattle.smap_map_choice.specs.Opening.{IsMadeOf};
 ghost use Rattle.smap_map_choice.specs.PlaceView.{place_in};
 ghost use Rattle.smap_map_files.specs.declared.loading.MapFault.{MapFault};
 
 use crate::Root;
 use crate::folders::{is_map, stem};
 use crate::following::{Followed, follow};
-use crate::loading::{Content, FileStore, Loaded, MapFault, Reading, loaded_from};
+use crate::loading::{Content, Loaded, MapFault, Reading, load, load_map, loaded_from};
 use crate::telling::{say_fault, say_mended, say_of, say_used};
 use crate::wanted::may_name_map;
 use smap_link::{FileKind, file_kind, own_url};
-use smap_map_choice::{Place, Store};
+use smap_map_choice::Place;
 use smap_mappings::script_widths;
 use smap_record::SourceMap;
 use smap_system::{Disk, Host, Stop, printable};
@@ -152,30 +152,29 @@ fn itself_loaded<E: Eprint + AllocGlobal, D: Disk>(
     if subject.root.is_some() {
         return left_out(host, how, subject, "names no map");
     }
+    let place = copied(alloc, &subject.place)?;
     let loaded = loaded_from(alloc, &text, &subject.place.base, subject.reading, true)?;
-    Ok(Some((copied(alloc, &subject.place)?, loaded)))
+    Ok(Some((place, loaded)))
 }
 
 /// The map in a file that a script names, whose lines are so wide, if that is known.
 fn beside_loaded<E: Eprint + AllocGlobal, D: Disk>(
     host: &Host<'_, E, D>,
-    store: &mut FileStore<'_, D>,
     how: How,
     subject: &Subject<'_>,
     found: Place,
     ends: &Option<Vec<usize>>,
 ) -> Result<(Place, Loaded), Stop>
-    ensures found { IfOk result (λ f. IsMadeOf (IsLoadedTo subject.now.reading (widths_in ends.now))
-        (D.held store.old.disk.now)
+    ensures { IfOk result (λ f. IsMadeOf (IsLoadedTo subject.now.reading (widths_in ends.now))
+        (D.held host.now.disk.now)
         (with_base subject.now.has_base subject.now.place.base.items (place_in found)) f.1) }
-    ensures held { D.held store.new.disk.now ≡ D.held store.old.disk.now }
 {
     let alloc = host.alloc();
     let file = printable(alloc, &found.file)?;
     let file = file.as_str();
     let which = format!(in alloc; "map, {file},")?;
     say_used(host, how, subject, which.as_str())?;
-    open_found(alloc, store, subject, found, ends)
+    open_found(alloc, host.disk, subject, found, ends)
 }
 
 /// What names a map that can't be had: it is left out if it is from a folder, and else refused.
@@ -191,28 +190,26 @@ fn wrong_loaded<E: Eprint + AllocGlobal, D: Disk>(
     if subject.root.is_some() {
         return left_out(host, how, subject, what.as_str());
     }
-    let broken = Loaded::Broken(MapFault::Link(what));
-    Ok(Some((copied(host.alloc(), &subject.place)?, broken)))
+    let place = copied(host.alloc(), &subject.place)?;
+    Ok(Some((place, Loaded::Broken(MapFault::Link(what)))))
 }
 
 /// The map that a script names, whose lines are so wide, if that is known; none if the script is left out.
 /// What is chosen is told.
 fn map_of_script<E: Eprint + AllocGlobal, D: Disk>(
     host: &Host<'_, E, D>,
-    store: &mut FileStore<'_, D>,
     how: How,
     subject: &Subject<'_>,
     text: Vec<u8>,
     ends: &Option<Vec<usize>>,
 ) -> Result<Option<(Place, Loaded)>, Stop>
-    requires held { IsHeld (D.held store.old.disk.now) subject.now.place.file.items text.items }
+    requires held { IsHeld (D.held host.now.disk.now) subject.now.place.file.items text.items }
     requires ends { widths_in ends.now
         ≡ spec.ends_of (folder_of subject.now.root) subject.now.place.file.items text.items }
-    ensures reached { IfOk result (λ found. MatchOption found
-        (IsLeftOut (D.held store.old.disk.now) (folder_of subject.now.root) (place_in subject.now.place))
-        (λ f. IsFollowedUp subject.now.reading (D.held store.old.disk.now) (folder_of subject.now.root)
+    ensures { IfOk result (λ found. MatchOption found
+        (IsLeftOut (D.held host.now.disk.now) (folder_of subject.now.root) (place_in subject.now.place))
+        (λ f. IsFollowedUp subject.now.reading (D.held host.now.disk.now) (folder_of subject.now.root)
         subject.now.has_base (place_in subject.now.place) f.1)) }
-    ensures held { D.held store.new.disk.now ≡ D.held store.old.disk.now }
 {
     match follow(host, &subject.place, subject.root, &text)? {
         Followed::Inline(bytes) => {
@@ -221,7 +218,7 @@ fn map_of_script<E: Eprint + AllocGlobal, D: Disk>(
         }
         Followed::File(found) => {
             drop(text);
-            Ok(Some(beside_loaded(host, store, how, subject, found, ends)?))
+            Ok(Some(beside_loaded(host, how, subject, found, ends)?))
         }
         Followed::Nothing => itself_loaded(host, how, subject, text),
         Followed::Wrong(what) => wrong_loaded(host, how, subject, what),
@@ -231,22 +228,21 @@ fn map_of_script<E: Eprint + AllocGlobal, D: Disk>(
 /// Opens the file that a script names, whose lines are so wide, if that is known.
 fn open_found<D: Disk>(
     alloc: Global,
-    store: &mut FileStore<'_, D>,
+    disk: &D,
     subject: &Subject<'_>,
     found: Place,
     ends: &Option<Vec<usize>>,
 ) -> Result<(Place, Loaded), Stop>
-    ensures found { IfOk result (λ f. IsMadeOf (IsLoadedTo subject.now.reading (widths_in ends.now))
-        (D.held store.old.disk.now)
+    ensures { IfOk result (λ f. IsMadeOf (IsLoadedTo subject.now.reading (widths_in ends.now))
+        (D.held disk.now)
         (with_base subject.now.has_base subject.now.place.base.items (place_in found)) f.1) }
-    ensures held { D.held store.new.disk.now ≡ D.held store.old.disk.now }
 {
     let found = Place {
         script: found.script,
         file: found.file,
         base: given_base(alloc, subject, found.base)?,
     };
-    let loaded = store.open_map(alloc, &found, subject.reading)?;
+    let loaded = load_map(alloc, disk, &found, subject.reading)?;
     Ok((found, ended(alloc, loaded, ends)?))
 }
 
@@ -296,20 +292,18 @@ fn map_in<E: Eprint + AllocGlobal, D: Disk>(
 /// The map of a script of which nothing else is known: the one that it names, or none if it is left out.
 fn script_loaded<E: Eprint + AllocGlobal, D: Disk>(
     host: &Host<'_, E, D>,
-    store: &mut FileStore<'_, D>,
     how: How,
     subject: &Subject<'_>,
     text: Vec<u8>,
 ) -> Result<Option<(Place, Loaded)>, Stop>
-    requires { IsHeld (D.held store.old.disk.now) subject.now.place.file.items text.items }
-    ensures reached { IfOk result (λ found. MatchOption found
-        (IsLeftOut (D.held store.old.disk.now) (folder_of subject.now.root) (place_in subject.now.place))
-        (λ f. IsFollowedUp subject.now.reading (D.held store.old.disk.now) (folder_of subject.now.root)
+    requires { IsHeld (D.held host.now.disk.now) subject.now.place.file.items text.items }
+    ensures { IfOk result (λ found. MatchOption found
+        (IsLeftOut (D.held host.now.disk.now) (folder_of subject.now.root) (place_in subject.now.place))
+        (λ f. IsFollowedUp subject.now.reading (D.held host.now.disk.now) (folder_of subject.now.root)
         subject.now.has_base (place_in subject.now.place) f.1)) }
-    ensures held { D.held store.new.disk.now ≡ D.held store.old.disk.now }
 {
     let ends = ends_of(host.alloc(), subject, &text)?;
-    map_of_script(host, store, how, subject, text, &ends)
+    map_of_script(host, how, subject, text, &ends)
 }
 
 /// The map that these bytes of a file are, whose script's lines are so wide, if that is known.
@@ -330,26 +324,24 @@ fn itself_ended(
 /// what is wrong.
 fn settle_content<E: Eprint + AllocGlobal, D: Disk>(
     host: &Host<'_, E, D>,
-    store: &mut FileStore<'_, D>,
     how: How,
     subject: &Subject<'_>,
     content: Content,
     ends: &Option<Vec<usize>>,
     worst: &mut u8,
 ) -> Result<Option<SourceMap>, Stop>
-    requires held { IsMadeOf IsContent (D.held store.old.disk.now) (place_in subject.now.place) content }
-    requires ends { AreEnds (D.held store.old.disk.now) (folder_of subject.now.root)
+    requires held { IsMadeOf IsContent (D.held host.now.disk.now) (place_in subject.now.place) content }
+    requires ends { AreEnds (D.held host.now.disk.now) (folder_of subject.now.root)
         (place_in subject.now.place) (widths_in ends.now) }
     ensures settled { IfOk result (λ found. MatchOption found
-        (GivesNone subject.now.reading (D.held store.old.disk.now) (folder_of subject.now.root)
+        (GivesNone subject.now.reading (D.held host.now.disk.now) (folder_of subject.now.root)
         subject.now.has_base (place_in subject.now.place) worst.new)
-        (IsOpened subject.now.reading (D.held store.old.disk.now) (folder_of subject.now.root)
+        (IsOpened subject.now.reading (D.held host.now.disk.now) (folder_of subject.now.root)
         subject.now.has_base (place_in subject.now.place))) }
     ensures worst { worst.old ≤ worst.new }
-    ensures held { D.held store.new.disk.now ≡ D.held store.old.disk.now }
 {
     match content {
-        Content::Script(text) => match script_loaded(host, store, how, subject, text)? {
+        Content::Script(text) => match script_loaded(host, how, subject, text)? {
             Some((place, loaded)) => map_in(host, &place, loaded, worst),
             None => Ok(None),
         },
@@ -390,41 +382,37 @@ fn script_beside<'a>(
 /// to it is there.
 fn said_by<E: Eprint + AllocGlobal, D: Disk>(
     host: &Host<'_, E, D>,
-    store: &mut FileStore<'_, D>,
     skip: bool,
     script: &Subject<'_>,
     text: Vec<u8>,
 ) -> Result<Beside, Stop>
-    requires { IsHeld (D.held store.old.disk.now) script.now.place.file.items text.items }
+    requires { IsHeld (D.held host.now.disk.now) script.now.place.file.items text.items }
     ensures named { IfOk result (λ said. IfSome said.named (λ f. IsFollowedUp script.now.reading
-        (D.held store.old.disk.now) (folder_of script.now.root) script.now.has_base
+        (D.held host.now.disk.now) (folder_of script.now.root) script.now.has_base
         (place_in script.now.place) f.1)) }
     ensures ends { IfOk result (λ said. widths_in said.ends
         ≡ spec.ends_of (folder_of script.now.root) script.now.place.file.items text.items) }
-    ensures held { D.held store.new.disk.now ≡ D.held store.old.disk.now }
 {
     let how = How {
         skip,
         verbose: false,
     };
     let ends = ends_of(host.alloc(), script, &text)?;
-    let named = map_of_script(host, store, how, script, text, &ends)?;
+    let named = map_of_script(host, how, script, text, &ends)?;
     Ok(Beside { named, ends })
 }
 
 /// What the script says that lies next to a map of a folder.
 fn said_beside<E: Eprint + AllocGlobal, D: Disk>(
     host: &Host<'_, E, D>,
-    store: &mut FileStore<'_, D>,
     how: How,
     subject: &Subject<'_>,
 ) -> Result<Beside, Stop>
     ensures reached { IfOk result (λ said. IfSome said.named (λ f. IsReached subject.now.reading
-        (D.held store.old.disk.now) (folder_of subject.now.root) subject.now.has_base
+        (D.held host.now.disk.now) (folder_of subject.now.root) subject.now.has_base
         (place_in subject.now.place) f.1)) }
-    ensures ends { IfOk result (λ said. AreEnds (D.held store.old.disk.now) (folder_of subject.now.root)
+    ensures ends { IfOk result (λ said. AreEnds (D.held host.now.disk.now) (folder_of subject.now.root)
         (place_in subject.now.place) (widths_in said.ends)) }
-    ensures held { D.held store.new.disk.now ≡ D.held store.old.disk.now }
 {
     let Some(script) = script_beside(host.alloc(), subject)? else {
         return Ok(Beside {
@@ -432,13 +420,13 @@ fn said_beside<E: Eprint + AllocGlobal, D: Disk>(
             ends: None,
         });
     };
-    match Store::open(store, host.alloc(), &script.place) {
-        Ok(Content::Script(text)) => said_by(host, store, how.skip, &script, text),
-        Ok(Content::Bytes(_) | Content::Unread(_)) => Ok(Beside {
+    let content = load(host.alloc(), host.disk, &script.place)?;
+    match content {
+        Content::Script(text) => said_by(host, how.skip, &script, text),
+        Content::Bytes(_) | Content::Unread(_) => Ok(Beside {
             named: None,
             ends: None,
         }),
-        Err(_) => Err(Stop::Memory),
     }
 }
 
@@ -451,25 +439,21 @@ fn said_beside<E: Eprint + AllocGlobal, D: Disk>(
 /// `Stop::Memory` alone: that a map is refused is said, and raises `worst` to the status of that.
 pub fn open_map_of<E: Eprint + AllocGlobal, D: Disk>(
     host: &Host<'_, E, D>,
-    store: &mut FileStore<'_, D>,
     how: How,
     subject: &Subject<'_>,
     worst: &mut u8,
 ) -> Result<Option<SourceMap>, Stop>
     ensures settled { IfOk result (λ found. MatchOption found
-        (GivesNone subject.now.reading (D.held store.old.disk.now) (folder_of subject.now.root)
+        (GivesNone subject.now.reading (D.held host.now.disk.now) (folder_of subject.now.root)
         subject.now.has_base (place_in subject.now.place) worst.new)
-        (IsOpened subject.now.reading (D.held store.old.disk.now) (folder_of subject.now.root)
+        (IsOpened subject.now.reading (D.held host.now.disk.now) (folder_of subject.now.root)
         subject.now.has_base (place_in subject.now.place))) }
     ensures worst { worst.old ≤ worst.new }
-    ensures held { D.held store.new.disk.now ≡ D.held store.old.disk.now }
 {
-    let Beside { named, ends } = said_beside(host, store, how, subject)?;
+    let Beside { named, ends } = said_beside(host, how, subject)?;
     if let Some((place, loaded)) = named {
         return map_in(host, &place, loaded, worst);
     }
-    match Store::open(store, host.alloc(), &subject.place) {
-        Ok(content) => settle_content(host, store, how, subject, content, &ends, worst),
-        Err(_) => Err(Stop::Memory),
-    }
+    let content = load(host.alloc(), host.disk, &subject.place)?;
+    settle_content(host, how, subject, content, &ends, worst)
 }

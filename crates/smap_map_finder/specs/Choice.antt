@@ -15,8 +15,7 @@ use Rattle.smap_link.specs.Tails.{AgreeEqually}
 use Rattle.smap_link.specs.Urls.{is_path, is_slash}
 use Rattle.smap_link.specs.declared.kinds.FileKind.{FileKind}
 use Rattle.smap_link.specs.declared.kinds.FileKind.TheVariants.{Map, Other, Script, StyleSheet}
-use Rattle.smap_map_choice.specs.Picks.{ArePicks, IsFound}
-use Rattle.smap_map_choice.specs.Opening.{found_place}
+use Rattle.smap_map_choice.specs.Picks.{ArePicks, IsFound, found_place}
 use Rattle.smap_map_choice.specs.PlaceView.{places_in}
 use Rattle.smap_map_choice.specs.Places.{MapPlace, scripts_of, usual_base}
 use Rattle.smap_map_choice.specs.declared.picks.Found.{Found}

@@ -41,14 +41,9 @@ choices_of c = record {
 abbrev pub no_choices : Choices
 no_choices = record { scripts = []; openings = []; left = []; ends = []; worst = 0 }
 
--- what the files of its disk hold
-abbrev pub held_of : {D : Type 0} → (D → Held) → Opener D → Held
-held_of held o = held o.store.disk.now
-
 -- It finds the scripts of the places that the arguments name, among files that hold this, and keeps what
 -- scripts name and which files give the same map.
-pub record IsOver {D : Type 0} (of : D → Held) (held : Held) (w : Wanted) (o : Opener D) : Type 0 where
-  pub held_is : held_of of o ≡ held
+pub record IsOver (held : Held) (w : Wanted) (o : Opener) : Type 0 where
   pub table_is : IsTable o.table (scripts_of (places_of w))
   pub links_are : AreLinks held w o.links.named.entries
   pub compared_are : AreCompared held w o.compared.items

@@ -13,11 +13,10 @@ pub record Finding (D : Type 0) : Type 0 where
   pub wanted : Wanted
   pub chosen : Choices
 
--- All that was chosen are those that the arguments name, by what the disk's files hold.
-pub record IsFinding {D : Type 0} (of : D → Held) (disk : D) (w : Wanted) (o : Opener D) (c : Choices)
-    : Type 0 where
-  pub over : IsOver of (of disk) w o
-  pub chosen : AreChosen (of disk) w c
+-- All that was chosen are those that the arguments name, among files that hold this.
+pub record IsFinding (held : Held) (w : Wanted) (o : Opener) (c : Choices) : Type 0 where
+  pub over : IsOver held w o
+  pub chosen : AreChosen held w c
 
 -- They look for the same, and what was refused stays so.
 pub record IsSameSearch {D : Type 0} (old new : Finding D) : Type 0 where

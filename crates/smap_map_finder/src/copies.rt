@@ -179,15 +179,15 @@ impl<E: Eprint + AllocGlobal, D: Disk> Search<'_, E, D> {
     /// Whether they are one for a name: they hold the same, or are maps that are alike.
     fn are_one(
         &self,
-        opener: &mut Opener<'_, D>,
+        opener: &mut Opener,
         name: &[u8],
         first: usize,
         second: usize,
     ) -> Result<bool, Stop>
-        requires { IsOver D.held (held_in D.held self.now) (wanted_in self.now) opener.old }
+        requires { IsOver (held_in D.held self.now) (wanted_in self.now) opener.old }
         ensures one { IfOk result (λ are. are ≡ true
             → AreOne (held_in D.held self.now) (wanted_in self.now) name.now first second) }
-        ensures over { IsOver D.held (held_in D.held self.now) (wanted_in self.now) opener.new }
+        ensures over { IsOver (held_in D.held self.now) (wanted_in self.now) opener.new }
     {
         if self.are_copies(&mut opener.compared, first, second)? {
             return Ok(true);
@@ -217,16 +217,16 @@ impl<E: Eprint + AllocGlobal, D: Disk> Search<'_, E, D> {
     /// Whether a name has this file once those are left out that are one with it.
     fn is_among_copies(
         &self,
-        opener: &mut Opener<'_, D>,
+        opener: &mut Opener,
         files: &[&[u8]],
         name: &[u8],
         file: usize,
     ) -> Result<bool, Stop>
-        requires over { IsOver D.held (held_in D.held self.now) (wanted_in self.now) opener.old }
+        requires over { IsOver (held_in D.held self.now) (wanted_in self.now) opener.old }
         requires files { map (λ f. f.now) files.now ≡ spec.rivals (wanted_in self.now) file }
         ensures copies { IfOk result (λ is. is ≡ true
             → IsAmongCopies (held_in D.held self.now) (wanted_in self.now) name.now file) }
-        ensures over { IsOver D.held (held_in D.held self.now) (wanted_in self.now) opener.new }
+        ensures over { IsOver (held_in D.held self.now) (wanted_in self.now) opener.new }
     {
         let mut left = Vec::from_slice(self.host.alloc(), files)?;
         for _ in 0..files.len() {
@@ -253,16 +253,16 @@ impl<E: Eprint + AllocGlobal, D: Disk> Search<'_, E, D> {
     /// but for those that are one with it.
     fn choose<'n>(
         &self,
-        opener: &mut Opener<'_, D>,
+        opener: &mut Opener,
         files: &[&[u8]],
         pick: Pick<'n>,
     ) -> Result<Pick<'n>, Stop>
-        requires over { IsOver D.held (held_in D.held self.now) (wanted_in self.now) opener.old }
+        requires over { IsOver (held_in D.held self.now) (wanted_in self.now) opener.old }
         requires files { map (λ f. f.now) files.now ≡ names_of (wanted_in self.now) }
         requires best { IsBestOf (held_in D.held self.now) (wanted_in self.now) pick }
         ensures name { IfOk result (λ p. p.name.now ≡ pick.entry.name.now) }
         ensures choice { IfOk result (IsChoiceOf (held_in D.held self.now) (wanted_in self.now)) }
-        ensures over { IsOver D.held (held_in D.held self.now) (wanted_in self.now) opener.new }
+        ensures over { IsOver (held_in D.held self.now) (wanted_in self.now) opener.new }
     {
         let Found::Unclear(first, _) = pick.found else {
             return Ok(pick);
@@ -280,16 +280,16 @@ impl<E: Eprint + AllocGlobal, D: Disk> Search<'_, E, D> {
     /// The same of each name.
     pub(crate) fn choose_all<'n>(
         &self,
-        opener: &mut Opener<'_, D>,
+        opener: &mut Opener,
         files: &[&[u8]],
         picks: &[Pick<'n>],
     ) -> Result<Vec<Pick<'n>>, Stop>
-        requires over { IsOver D.held (held_in D.held self.now) (wanted_in self.now) opener.old }
+        requires over { IsOver (held_in D.held self.now) (wanted_in self.now) opener.old }
         requires files { map (λ f. f.now) files.now ≡ names_of (wanted_in self.now) }
         requires best { All (IsBestOf (held_in D.held self.now) (wanted_in self.now)) picks.now }
         ensures choices { IfOk result (λ all. AreChoices (held_in D.held self.now) (wanted_in self.now)
             (map (λ p. p.name.now) picks.now) all.items) }
-        ensures over { IsOver D.held (held_in D.held self.now) (wanted_in self.now) opener.new }
+        ensures over { IsOver (held_in D.held self.now) (wanted_in self.now) opener.new }
     {
         let mut chosen = Vec::with_capacity(self.host.alloc(), picks.len())?;
         for i in 0..picks.len() {

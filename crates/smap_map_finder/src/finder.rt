@@ -22,7 +22,7 @@ use std::sync::Arc;
 #[derive(Drop)]
 pub struct Finder<'a, E, D: Disk> {
     search: Search<'a, E, D>,
-    opener: Opener<'a, D>,
+    opener: Opener,
     chosen: Chosen,
 }
 
@@ -40,7 +40,7 @@ impl<'a, E, D: Disk> Model for Finder<'a, E, D> {
       chosen = choices_of f.chosen;
     } };
 
-    ghost invariant = { λ f. IsFinding D.held f.search.host.now.disk.now f.search.wanted.now f.opener
+    ghost invariant = { λ f. IsFinding (D.held f.search.host.now.disk.now) f.search.wanted.now f.opener
         (choices_of f.chosen) };
 }
 
@@ -63,7 +63,7 @@ impl<'a, E: Eprint + AllocGlobal, D: Disk> Finder<'a, E, D> {
         }) }
     {
         let alloc = host.alloc();
-        let opener = Opener::new(alloc, host.disk, wanted)?;
+        let opener = Opener::new(alloc, wanted)?;
         Ok(Finder {
             search: Search { host, how, wanted },
             opener,
@@ -101,7 +101,7 @@ impl<'a, E: Eprint + AllocGlobal, D: Disk> Finder<'a, E, D> {
         ensures named { AreChosen (D.held self.new.disk) self.new.wanted self.new.chosen }
         ensures same { IsSameSearch self.old self.new }
     {
-        self.search.check_all(&mut self.opener, &mut self.chosen)
+        self.search.check_all(&mut self.chosen)
     }
 
     /// Forgets the names that have maps, once there are many; the maps stay open, and names that come again

@@ -16,7 +16,6 @@ use crate::chosen::Chosen;
 use crate::opening::{Opener, Search};
 use crate::picking::{key_of_found, opening_name};
 use smap_map_choice::{Found, Pick};
-use smap_map_files::FileStore;
 use smap_record::SourceMap;
 use smap_system::{Disk, Stop};
 use std::alloc::{AllocError, Global};
@@ -145,13 +144,11 @@ impl<E: Eprint + AllocGlobal, D: Disk> Search<'_, E, D> {
     /// The map of what a name has, opened under the name that it has then.
     pub(crate) fn opened_under(
         &self,
-        store: &mut FileStore<'_, D>,
         pick: &Pick<'_>,
         worst: &mut u8,
     ) -> Result<Option<SourceMap>, Stop>
-        ensures tried { IfOk result (IsTried (D.held store.old.disk.now) (wanted_in self.now) worst.new
+        ensures tried { IfOk result (IsTried (held_in D.held self.now) (wanted_in self.now) worst.new
             pick.now.name.now pick.now.found) }
-        ensures held { D.held store.new.disk.now ≡ D.held store.old.disk.now }
         ensures worst { worst.old ≤ worst.new }
     {
         let name = opening_name(self.host.alloc(), self.wanted, pick)?;
@@ -159,28 +156,21 @@ impl<E: Eprint + AllocGlobal, D: Disk> Search<'_, E, D> {
             name: name.as_slice(),
             found: pick.found,
         };
-        self.opened_map(store, &under, worst)
+        self.opened_map(&under, worst)
     }
 
     /// Opens the map of a pick, and notes that under this key, and for which name.
-    fn open_one(
-        &self,
-        store: &mut FileStore<'_, D>,
-        pick: &Pick<'_>,
-        key: Vec<u8>,
-        chosen: &mut Chosen,
-    ) -> Result<usize, Stop>
-        requires chosen { AreChosen (D.held store.old.disk.now) (wanted_in self.now) (choices_of chosen.old) }
+    fn open_one(&self, pick: &Pick<'_>, key: Vec<u8>, chosen: &mut Chosen) -> Result<usize, Stop>
+        requires chosen { AreChosen (held_in D.held self.now) (wanted_in self.now) (choices_of chosen.old) }
         requires find { IsFind pick.now.found }
         ensures served { IfOk result (λ n. (o : Opening) × IsServedBy (choices_of chosen.new) n
             pick.now.name.now pick.now.found o) }
-        ensures chosen { AreChosen (D.held store.old.disk.now) (wanted_in self.now) (choices_of chosen.new) }
+        ensures chosen { AreChosen (held_in D.held self.now) (wanted_in self.now) (choices_of chosen.new) }
         ensures grows { Grows (choices_of chosen.old) (choices_of chosen.new) }
-        ensures ends { KeepsEnds (D.held store.old.disk.now) (wanted_in self.now) pick.now.name.now
+        ensures ends { KeepsEnds (held_in D.held self.now) (wanted_in self.now) pick.now.name.now
             pick.now.found (choices_of chosen.old) (choices_of chosen.new) }
-        ensures held { D.held store.new.disk.now ≡ D.held store.old.disk.now }
     {
-        let map = self.opened_under(store, pick, &mut chosen.worst)?;
+        let map = self.opened_under(pick, &mut chosen.worst)?;
         let alloc = self.host.alloc();
         let number = chosen.note_opening(alloc, key, pick, map)?;
         chosen.note_end(alloc, pick.name, pick.found)?;
@@ -189,19 +179,13 @@ impl<E: Eprint + AllocGlobal, D: Disk> Search<'_, E, D> {
 
     /// The number of the opening that serves a pick, which is opened if none does yet; none where nothing was
     /// found, or its file is opened for no further name.
-    fn number_for(
-        &self,
-        store: &mut FileStore<'_, D>,
-        pick: &Pick<'_>,
-        chosen: &mut Chosen,
-    ) -> Result<Option<usize>, Stop>
-        requires { AreChosen (D.held store.old.disk.now) (wanted_in self.now) (choices_of chosen.old) }
+    fn number_for(&self, pick: &Pick<'_>, chosen: &mut Chosen) -> Result<Option<usize>, Stop>
+        requires { AreChosen (held_in D.held self.now) (wanted_in self.now) (choices_of chosen.old) }
         ensures number { IfOk result (IsNumberOf (choices_of chosen.new) pick.now.name.now pick.now.found) }
-        ensures chosen { AreChosen (D.held store.old.disk.now) (wanted_in self.now) (choices_of chosen.new) }
+        ensures chosen { AreChosen (held_in D.held self.now) (wanted_in self.now) (choices_of chosen.new) }
         ensures grows { Grows (choices_of chosen.old) (choices_of chosen.new) }
-        ensures ends { KeepsEnds (D.held store.old.disk.now) (wanted_in self.now) pick.now.name.now
+        ensures ends { KeepsEnds (held_in D.held self.now) (wanted_in self.now) pick.now.name.now
             pick.now.found (choices_of chosen.old) (choices_of chosen.new) }
-        ensures held { D.held store.new.disk.now ≡ D.held store.old.disk.now }
     {
         if !is_find(pick.found) {
             return Ok(None);
@@ -214,7 +198,7 @@ impl<E: Eprint + AllocGlobal, D: Disk> Search<'_, E, D> {
         if turn == Turn::Never {
             return Ok(None);
         }
-        let number = self.open_one(store, pick, key, chosen)?;
+        let number = self.open_one(pick, key, chosen)?;
         if turn == Turn::First && chosen.map_at(number).is_some() {
             chosen.count = chosen.count.saturating_add(1);
         }
@@ -222,50 +206,36 @@ impl<E: Eprint + AllocGlobal, D: Disk> Search<'_, E, D> {
     }
 
     /// Gives a name its map, which is opened if it isn't yet, or notes that it has none.
-    fn give(
-        &self,
-        store: &mut FileStore<'_, D>,
-        in_frames: bool,
-        pick: &Pick<'_>,
-        chosen: &mut Chosen,
-    ) -> Result<(), Stop>
-        requires chosen { AreChosen (D.held store.old.disk.now) (wanted_in self.now) (choices_of chosen.old) }
-        requires picked { IsPickedBy (D.held store.old.disk.now) (wanted_in self.now) in_frames pick.now }
-        ensures settled { OnOk result (IsSettledIn (D.held store.old.disk.now) (wanted_in self.now) in_frames
+    fn give(&self, in_frames: bool, pick: &Pick<'_>, chosen: &mut Chosen) -> Result<(), Stop>
+        requires chosen { AreChosen (held_in D.held self.now) (wanted_in self.now) (choices_of chosen.old) }
+        requires picked { IsPickedBy (held_in D.held self.now) (wanted_in self.now) in_frames pick.now }
+        ensures settled { OnOk result (IsSettledIn (held_in D.held self.now) (wanted_in self.now) in_frames
             (choices_of chosen.new) pick.now.name.now) }
-        ensures chosen { AreChosen (D.held store.old.disk.now) (wanted_in self.now) (choices_of chosen.new) }
+        ensures chosen { AreChosen (held_in D.held self.now) (wanted_in self.now) (choices_of chosen.new) }
         ensures grows { Grows (choices_of chosen.old) (choices_of chosen.new) }
-        ensures ends { KeepsEnds (D.held store.old.disk.now) (wanted_in self.now) pick.now.name.now
+        ensures ends { KeepsEnds (held_in D.held self.now) (wanted_in self.now) pick.now.name.now
             pick.now.found (choices_of chosen.old) (choices_of chosen.new) }
-        ensures held { D.held store.new.disk.now ≡ D.held store.old.disk.now }
     {
-        let number = self.number_for(store, pick, chosen)?;
+        let number = self.number_for(pick, chosen)?;
         self.tell_pick(pick, chosen)?;
         link(self.host.alloc(), in_frames, pick, number, chosen)?;
         Ok(())
     }
 
     /// Gives each of these names its map, or notes that it has none.
-    fn give_all(
-        &self,
-        store: &mut FileStore<'_, D>,
-        in_frames: bool,
-        picks: &[Pick<'_>],
-        chosen: &mut Chosen,
-    ) -> Result<(), Stop>
-        requires chosen { AreChosen (D.held store.old.disk.now) (wanted_in self.now) (choices_of chosen.old) }
-        requires picked { All (IsPickedBy (D.held store.old.disk.now) (wanted_in self.now) in_frames)
+    fn give_all(&self, in_frames: bool, picks: &[Pick<'_>], chosen: &mut Chosen) -> Result<(), Stop>
+        requires chosen { AreChosen (held_in D.held self.now) (wanted_in self.now) (choices_of chosen.old) }
+        requires picked { All (IsPickedBy (held_in D.held self.now) (wanted_in self.now) in_frames)
             picks.now }
-        ensures settled { OnOk result (All (λ p. IsSettledIn (D.held store.old.disk.now) (wanted_in
+        ensures settled { OnOk result (All (λ p. IsSettledIn (held_in D.held self.now) (wanted_in
             self.now) in_frames (choices_of chosen.new) p.name.now) picks.now) }
-        ensures chosen { AreChosen (D.held store.old.disk.now) (wanted_in self.now) (choices_of chosen.new) }
+        ensures chosen { AreChosen (held_in D.held self.now) (wanted_in self.now) (choices_of chosen.new) }
         ensures grows { Grows (choices_of chosen.old) (choices_of chosen.new) }
-        ensures ends { KeepEnds (D.held store.old.disk.now) (wanted_in self.now) (map (λ p. p.name.now)
+        ensures ends { KeepEnds (held_in D.held self.now) (wanted_in self.now) (map (λ p. p.name.now)
             picks.now) (choices_of chosen.old) (choices_of chosen.new) }
-        ensures held { D.held store.new.disk.now ≡ D.held store.old.disk.now }
     {
         for i in 0..picks.len() {
-            self.give(store, in_frames, &picks[i], chosen)?;
+            self.give(in_frames, &picks[i], chosen)?;
         }
         Ok(())
     }
@@ -273,26 +243,26 @@ impl<E: Eprint + AllocGlobal, D: Disk> Search<'_, E, D> {
     /// Gives each of these names its map, once it is found which that is.
     fn give_names(
         &self,
-        opener: &mut Opener<'_, D>,
+        opener: &mut Opener,
         in_frames: bool,
         names: &[&[u8]],
         chosen: &mut Chosen,
     ) -> Result<(), Stop>
         requires chosen { AreChosen (held_in D.held self.now) (wanted_in self.now) (choices_of chosen.old) }
-        requires over { IsOver D.held (held_in D.held self.now) (wanted_in self.now) opener.old }
+        requires over { IsOver (held_in D.held self.now) (wanted_in self.now) opener.old }
         ensures settled { OnOk result (All (IsSettledIn (held_in D.held self.now) (wanted_in self.now)
             in_frames (choices_of chosen.new)) (map (λ n. n.now) names.now)) }
         ensures chosen { AreChosen (held_in D.held self.now) (wanted_in self.now) (choices_of chosen.new) }
         ensures grows { Grows (choices_of chosen.old) (choices_of chosen.new) }
         ensures ends { KeepEnds (held_in D.held self.now) (wanted_in self.now) (map (λ n. n.now) names.now)
             (choices_of chosen.old) (choices_of chosen.new) }
-        ensures over { IsOver D.held (held_in D.held self.now) (wanted_in self.now) opener.new }
+        ensures over { IsOver (held_in D.held self.now) (wanted_in self.now) opener.new }
     {
         if names.is_empty() {
             return Ok(());
         }
         let picks = self.picks_of(opener, in_frames, names)?;
-        self.give_all(&mut opener.store, in_frames, &picks, chosen)
+        self.give_all(in_frames, &picks, chosen)
     }
 
     /// Gives each of these names of a log its map, or finds that it has none: names that frames have, or
@@ -300,20 +270,20 @@ impl<E: Eprint + AllocGlobal, D: Disk> Search<'_, E, D> {
     /// is named.
     pub(crate) fn open_for(
         &self,
-        opener: &mut Opener<'_, D>,
+        opener: &mut Opener,
         in_frames: bool,
         names: &[&[u8]],
         chosen: &mut Chosen,
     ) -> Result<(), Stop>
         requires named { AreChosen (held_in D.held self.now) (wanted_in self.now) (choices_of chosen.old) }
-        requires over { IsOver D.held (held_in D.held self.now) (wanted_in self.now) opener.old }
+        requires over { IsOver (held_in D.held self.now) (wanted_in self.now) opener.old }
         ensures settled { OnOk result (All (λ n. IsSettledIn (held_in D.held self.now) (wanted_in self.now)
             in_frames (choices_of chosen.new) n.now) names.now) }
         ensures named { AreChosen (held_in D.held self.now) (wanted_in self.now) (choices_of chosen.new) }
         ensures grows { Grows (choices_of chosen.old) (choices_of chosen.new) }
         ensures ends { KeepEnds (held_in D.held self.now) (wanted_in self.now) (map (λ n. n.now) names.now)
             (choices_of chosen.old) (choices_of chosen.new) }
-        ensures over { IsOver D.held (held_in D.held self.now) (wanted_in self.now) opener.new }
+        ensures over { IsOver (held_in D.held self.now) (wanted_in self.now) opener.new }
     {
         let fresh = unknown(self.host.alloc(), in_frames, names, chosen)?;
         self.give_names(opener, in_frames, &fresh, chosen)?;

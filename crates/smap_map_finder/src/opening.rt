@@ -1,11 +1,12 @@
 //! The maps of the scripts that a log names, opened as the log first names them.
 ghost use Rattle.std.specs.Prelude.{◌≡◌, ◌≤◌, IfNone, IfOk, IfSome, None};
 ghost use Rattle.std.specs.Prelude.{option_map};
+ghost use Rattle.smap_system.specs.Held.{Held};
 ghost use Rattle.smap_map_finder.specs.Choice.{IsOpenedAs, IsUnopened, files_of, places_of};
 ghost use Rattle.smap_map_finder.specs.ChosenView.{IsOver};
-ghost use Rattle.smap_map_choice.specs.Opening.{found_place};
+ghost use Rattle.smap_map_choice.specs.Picks.{found_place};
 ghost use Rattle.smap_map_choice.specs.PlaceView.{place_in};
-ghost use Rattle.smap_map_finder.specs.Searching.{wanted_in};
+ghost use Rattle.smap_map_finder.specs.Searching.{held_in, wanted_in};
 
 use crate::alike::Pair;
 use crate::copies::Compared;
@@ -14,7 +15,7 @@ use crate::roots::{has_base, root_of};
 use indexmap::IndexMap;
 use smap_link::{ChoiceFault, ScriptTable};
 use smap_map_choice::{Found, Pick, Place, table_of, usual_place};
-use smap_map_files::{FileStore, How, Subject, Wanted, copied, open_map_of};
+use smap_map_files::{How, Subject, Wanted, copied, open_map_of};
 use smap_record::SourceMap;
 use smap_system::{Disk, Host, Stop};
 use std::alloc::{AllocError, Global};
@@ -29,26 +30,19 @@ pub(crate) struct Search<'a, E, D> {
 
 /// What opens the maps.
 #[derive(Drop)]
-pub(crate) struct Opener<'a, D> {
+pub(crate) struct Opener {
     pub(crate) table: ScriptTable,
     pub(crate) links: Links,
     pub(crate) compared: Vec<Compared>,
     /// How often two files were found to be alike, or as often as that is tried at most, if they once
     /// weren't.
     pub(crate) tried: IndexMap<Pair, usize>,
-    pub(crate) store: FileStore<'a, D>,
 }
 
-impl<'a, D> Opener<'a, D> {
+impl Opener {
     /// Over maps of which no two have the same script.
-    pub(crate) fn new(
-        alloc: Global,
-        disk: &'a D,
-        wanted: &Wanted<'_>,
-    ) -> Result<Opener<'a, D>, Stop>
-    where
-        D: Disk,
-        ensures { IfOk result (IsOver D.held (D.held disk.now) wanted.now) }
+    pub(crate) fn new(alloc: Global, wanted: &Wanted<'_>) -> Result<Opener, Stop>
+        ensures { (held : Held) → IfOk result (IsOver held wanted.now) }
     {
         match table_of(alloc, wanted.places.as_slice()) {
             Ok(table) => Ok(Opener {
@@ -56,7 +50,6 @@ impl<'a, D> Opener<'a, D> {
                 links: Links::new(alloc),
                 compared: Vec::new(alloc),
                 tried: IndexMap::new(alloc),
-                store: FileStore::new(alloc, disk),
             }),
             Err(ChoiceFault::Memory) => Err(Stop::Memory),
             Err(_) => Err(Stop::Reported(1)),
@@ -90,16 +83,14 @@ impl<E: Eprint + AllocGlobal, D: Disk> Search<'_, E, D> {
     /// The map of a pick, opened.
     pub(crate) fn opened_map(
         &self,
-        store: &mut FileStore<'_, D>,
         pick: &Pick<'_>,
         worst: &mut u8,
     ) -> Result<Option<SourceMap>, Stop>
-        ensures named { IfOk result (λ found. IfSome found (IsOpenedAs (D.held store.old.disk.now)
+        ensures named { IfOk result (λ found. IfSome found (IsOpenedAs (held_in D.held self.now)
             (wanted_in self.now) pick.now.name.now pick.now.found)) }
-        ensures none { IfOk result (λ found. IfNone found (IsUnopened (D.held store.old.disk.now) (wanted_in
+        ensures none { IfOk result (λ found. IfNone found (IsUnopened (held_in D.held self.now) (wanted_in
             self.now) pick.now.name.now pick.now.found worst.new)) }
         ensures worst { worst.old ≤ worst.new }
-        ensures held { D.held store.new.disk.now ≡ D.held store.old.disk.now }
     {
         let (alloc, wanted) = (self.host.alloc(), self.wanted);
         let Some(place) = place_of(alloc, wanted, pick)? else {
@@ -111,6 +102,6 @@ impl<E: Eprint + AllocGlobal, D: Disk> Search<'_, E, D> {
             has_base: has_base(wanted, pick.found),
             reading: wanted.reading,
         };
-        open_map_of(self.host, store, self.how, &subject, worst)
+        open_map_of(self.host, self.how, &subject, worst)
     }
 }

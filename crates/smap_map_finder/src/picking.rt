@@ -371,18 +371,18 @@ impl<E: Eprint + AllocGlobal, D: Disk> Search<'_, E, D> {
     /// in as many bytes, the map, through the script if that names it.
     fn settled<'n>(
         &self,
-        opener: &mut Opener<'_, D>,
+        opener: &mut Opener,
         files: &[&[u8]],
         names: &[&'n [u8]],
         picks: Vec<Pick<'n>>,
     ) -> Result<Vec<Pick<'n>>, Stop>
-        requires over { IsOver D.held (held_in D.held self.now) (wanted_in self.now) opener.old }
+        requires over { IsOver (held_in D.held self.now) (wanted_in self.now) opener.old }
         requires files { map (λ f. f.now) files.now ≡ names_of (wanted_in self.now) }
         requires picks { ArePicksIn (wanted_in self.now) (names_of (wanted_in self.now)) (map (λ n. n.now)
             names.now) picks.items }
         ensures picked { IfOk result (λ all. AreBest (held_in D.held self.now) (wanted_in self.now)
             (map (λ n. n.now) names.now) all.items) }
-        ensures over { IsOver D.held (held_in D.held self.now) (wanted_in self.now) opener.new }
+        ensures over { IsOver (held_in D.held self.now) (wanted_in self.now) opener.new }
     {
         if are_plain(self.wanted, &picks) {
             return Ok(picks);
@@ -402,14 +402,14 @@ impl<E: Eprint + AllocGlobal, D: Disk> Search<'_, E, D> {
     /// What each name has.
     pub(crate) fn picks_of<'n>(
         &self,
-        opener: &mut Opener<'_, D>,
+        opener: &mut Opener,
         in_frames: bool,
         names: &[&'n [u8]],
     ) -> Result<Vec<Pick<'n>>, Stop>
-        requires over { IsOver D.held (held_in D.held self.now) (wanted_in self.now) opener.old }
+        requires over { IsOver (held_in D.held self.now) (wanted_in self.now) opener.old }
         ensures picked { IfOk result (λ all. ArePicked (held_in D.held self.now) (wanted_in self.now)
             in_frames (map (λ n. n.now) names.now) all.items) }
-        ensures over { IsOver D.held (held_in D.held self.now) (wanted_in self.now) opener.new }
+        ensures over { IsOver (held_in D.held self.now) (wanted_in self.now) opener.new }
     {
         let alloc = self.host.alloc();
         let files = names_of(alloc, self.wanted)?;

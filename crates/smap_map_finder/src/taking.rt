@@ -54,7 +54,7 @@ impl<'a, E: Eprint + AllocGlobal, D: Disk> Search<'a, E, D> {
             (map (λ n. n.now) names.now) (map (option_map (λ f. f.now)) files.items)) }
     {
         let (host, wanted) = (self.host, self.wanted);
-        let mut opener = Opener::new(host.alloc(), host.disk, wanted)?;
+        let mut opener = Opener::new(host.alloc(), wanted)?;
         let picks = self.picks_of(&mut opener, in_frames, names);
         drop(opener);
         let picks = picks?;

@@ -34,10 +34,19 @@ use std::marker::Model;
 /// [`name_count`]: SourceMap::name_count
 /// [`name`]: SourceMap::name
 /// [`listed_token`]: SourceMap::listed_token
-#[derive(Drop)]
 pub struct SourceMap {
     pub(crate) labels: OwnLabels,
     listing: Listing,
+}
+
+// By hand: what lets go of a map then calls this, in place of letting go of each field, which would make each
+// function with several exits longer to prove.
+impl Drop for SourceMap {
+    fn drop(self) {
+        let SourceMap { labels, listing } = self;
+        drop(labels);
+        drop(listing);
+    }
 }
 
 impl Model for SourceMap {

@@ -32,6 +32,7 @@ pub(crate) fn task_named(name: &str) -> Option<Task<'static>> {
         "run_translate" => Some(Task::Translate {
             mode: MatchMode::FRAMES,
             hide: false,
+            names: false,
         }),
         _ => None,
     }

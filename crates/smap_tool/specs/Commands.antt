@@ -28,7 +28,7 @@ use Rattle.smap_tool.specs.FaultLine.{fault_line}
 use Rattle.smap_tool.specs.MapRun.{map_output}
 use Rattle.smap_tool.specs.Run.{WritesOutput, WritesOutputAgainst, Runs}
 use Rattle.smap_tool.specs.Scripts.{RunsScripts}
-use Rattle.smap_tool.specs.Translate.{RunsTranslate, fates_asked}
+use Rattle.smap_tool.specs.Translate.{RunsTranslate, WritesAsked}
 use Rattle.smap_tool.specs.Words.{HasFlag, HasNumber, HasText, IsOneOf, flag, on_base, position_argument}
 use Rattle.smap_tool.specs.declared.commands.Task.{Task}
 use Rattle.smap_tool.specs.declared.commands.Task.TheVariants.{Respell, Check, Tidy, Flatten, Lookup}
@@ -58,8 +58,9 @@ lookup = with_rule (with_rule (on_base (codes "lookup")) (position_argument (cod
     (position_argument (codes "COLUMN"))
 
 abbrev pub translate : App
-translate = with_rule (with_rule (with_rule (new_app (codes "translate")) (flag (codes "anywhere")))
-    (flag (codes "ignore-query"))) (flag (codes "hide-ignored"))
+translate = with_rule (with_rule (with_rule (with_rule (new_app (codes "translate"))
+    (flag (codes "anywhere"))) (flag (codes "ignore-query"))) (flag (codes "hide-ignored")))
+    (flag (codes "names"))
 
 abbrev pub scripts : App
 scripts = new_app (codes "scripts")
@@ -94,10 +95,11 @@ IsTaskOf m (Tidy base relative) = (m.0 ≡ codes "tidy") × HasText m.1 (codes "
 IsTaskOf m (Flatten base) = (m.0 ≡ codes "flatten") × HasText m.1 (codes "BASE") base.now
 IsTaskOf m (Lookup base line column) = (m.0 ≡ codes "lookup") × HasText m.1 (codes "BASE") base.now
     × HasNumber m.1 (codes "LINE") line × HasNumber m.1 (codes "COLUMN") column
-IsTaskOf m (Translate mode hide) = (m.0 ≡ codes "translate")
+IsTaskOf m (Translate mode hide names) = (m.0 ≡ codes "translate")
     × HasFlag m.1 (codes "anywhere") mode.anywhere
     × HasFlag m.1 (codes "ignore-query") mode.ignore_query
     × HasFlag m.1 (codes "hide-ignored") hide
+    × HasFlag m.1 (codes "names") names
 IsTaskOf m Scripts = m.0 ≡ codes "scripts"
 IsTaskOf m (Compose options) = (m.0 ≡ codes "compose") × HasFlag m.1 (codes "relative") options.relative
     × HasFlag m.1 (codes "thin") options.thin × HasFlag m.1 (codes "used") options.used
@@ -217,7 +219,7 @@ RunsTask (Tidy base relative) = Runs (WritesOutputAgainst (parse_url None base.n
 RunsTask (Flatten base) = Runs (WritesOutputAgainst (parse_url None base.now) flatten_output)
 RunsTask (Lookup base line column) =
     Runs (WritesOutputAgainst (parse_url None base.now) (lookup_output line column))
-RunsTask (Translate mode hide) = RunsTranslate (fates_asked mode hide)
+RunsTask (Translate mode hide names) = RunsTranslate (WritesAsked names mode hide)
 RunsTask Scripts = RunsScripts
 RunsTask (Compose options) = Runs (WritesOutput (compose_output options))
 
@@ -229,6 +231,6 @@ most_reads (Check base) = longest_input + 1
 most_reads (Tidy base relative) = longest_input + 1
 most_reads (Flatten base) = longest_input + 1
 most_reads (Lookup base line column) = longest_input + 1
-most_reads (Translate mode hide) = 2 * most_calls
+most_reads (Translate mode hide names) = 2 * most_calls
 most_reads Scripts = most_calls
 most_reads (Compose options) = longest_input + 1

@@ -44,7 +44,7 @@ pub use scripts::run_scripts;
 use scripts::scripts_command;
 pub use tidy::run_tidy;
 use tidy::tidy_command;
-use translate::translate_command;
+use translate::{run_translate_asked, translate_command};
 pub use translate::{run_translate, run_translate_by};
 
 /// What a command line asks for: a command with its values.
@@ -78,13 +78,15 @@ pub enum Task<'a> {
         /// The generated column, from 0 to 2,147,483,647.
         column: u32,
     },
-    /// `translate [--anywhere] [--ignore-query] [--hide-ignored]`: translate a stack trace to source
-    /// positions.
+    /// `translate [--anywhere] [--ignore-query] [--hide-ignored] [--names]`: translate a stack trace to
+    /// source positions.
     Translate {
         /// How positions are found in a line.
         mode: MatchMode,
         /// Whether frames in ignored sources are left out.
         hide: bool,
+        /// Whether frames get the names of functions.
+        names: bool,
     },
     /// `scripts`: list the scripts that a stack trace names.
     Scripts,
@@ -162,6 +164,7 @@ fn task_named<'a>(name: &str, inner: &ArgMatches<'a>) -> Option<Task<'a>>
                 ignore_query: is_set(inner, "ignore-query"),
             },
             hide: is_set(inner, "hide-ignored"),
+            names: is_set(inner, "names"),
         }),
         "scripts" => Some(Task::Scripts),
         "compose" => Some(Task::Compose {
@@ -266,7 +269,9 @@ pub fn run<R: Read, W: Write>(
         Task::Lookup { base, line, column } => run_lookup(
             alloc, base, line, column, reader, writer,
         ),
-        Task::Translate { mode, hide } => run_translate_by(alloc, mode, hide, reader, writer),
+        Task::Translate { mode, hide, names } => run_translate_asked(
+            alloc, mode, hide, names, reader, writer,
+        ),
         Task::Scripts => run_scripts(alloc, reader, writer),
         Task::Compose { options } => run_compose(alloc, options, reader, writer),
     }

@@ -3,9 +3,14 @@ use Rattle.std.proofs.Common.{◌≡◌, ◌∙◌, ℕ, ◌+◌, ◌-◌, ◌^�
 use Rattle.std.proofs.Common.{count_by, refl, ap, arith}
 use Rattle.std.proofs.lemmas.List.Sums.{sum_by-cons}
 use Rattle.smap_trace.specs.declared.outcome.Counts.{Counts}
-use Rattle.smap_trace.specs.Pieces.{count_line, count_lines}
+use Rattle.smap_trace.specs.Giving.{count_line, no_counts}
 use Rattle.smap_trace.specs.Translation.{Fate, dropped, is_dropped, is_translated, kept, lines_of, translated}
 use Rattle.smap_trace.specs.Views.{at_most_u64, counts_by, outcome_of}
+
+-- the counts with these lines more
+abbrev pub count_lines : (List ℕ → Fate) → Counts → List (List ℕ) → Counts
+count_lines fates c [] = c
+count_lines fates c (line ∷ lines) = count_lines fates (count_line c (outcome_of (fates line))) lines
 
 abbrev counts : ℕ → ℕ → ℕ → Counts
 counts a b d = record { lines = at_most_u64 a; translated = at_most_u64 b; dropped = at_most_u64 d }
@@ -63,7 +68,6 @@ module _ (fates : List ℕ → Fate) where
       ∙ all_counted ls (a + 1) (b + t) (d + u)
       ∙ same _ _ _ _ _ _ one two three
 
-  pub counted_all : (trace : List ℕ) → count_lines fates
-      (record { lines = 0; translated = 0; dropped = 0 }) (lines_of trace) ≡ counts_by fates trace
+  pub counted_all : (trace : List ℕ) → count_lines fates no_counts (lines_of trace) ≡ counts_by fates trace
   counted_all trace =
       all_counted (lines_of trace) 0 0 0 ∙ same _ _ _ _ _ _ (omega arith) (omega arith) (omega arith)

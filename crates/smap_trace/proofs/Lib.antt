@@ -13,6 +13,7 @@ pub mod LineStartLemmas
 mod LineCountLemmas
 pub mod LookupLemmas
 pub mod MemberLemmas
+pub mod NamedFateLemmas
 pub mod NamedUrlLemmas
 pub mod NamingLemmas
 pub mod OccurrenceLemmas

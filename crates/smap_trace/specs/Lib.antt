@@ -4,11 +4,13 @@ pub mod Counting
 pub mod Cuts
 pub mod Cutting
 pub mod Ends
+pub mod Giving
 pub mod Known
 pub mod Laws
 pub mod LineParts
 pub mod LineStarts
 pub mod Lookup
+pub mod NamedFates
 pub mod Names
 pub mod NamesView
 pub mod Naming

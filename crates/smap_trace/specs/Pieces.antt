@@ -1,26 +1,39 @@
 -- For private contracts: a trace whose lines are translated one by one.
-use Rattle.std.specs.Prelude.{◌≡◌, ℕ, ◌+◌, List, [], ◌∷◌, ◌++◌}
+use Rattle.std.specs.Prelude.{◌≡◌, ℕ, List, Option, Result, Ok, Err}
+use Rattle.smap_io.specs.Writing.{Took, TookPrefix}
+use Rattle.smap_io.specs.declared.device.Device.{Device}
+use Rattle.smap_trace.specs.declared.error.TraceError.{TraceError}
+use Rattle.smap_trace.specs.declared.error.TraceError.TheVariants as error
 use Rattle.smap_trace.specs.declared.outcome.Counts.{Counts}
 use Rattle.smap_trace.specs.declared.outcome.LineOutcome.{LineOutcome}
-use Rattle.smap_trace.specs.declared.outcome.LineOutcome.TheVariants.{Kept, Translated, Dropped}
 use Rattle.smap_trace.specs.declared.streaming.Output.{Output}
-use Rattle.smap_trace.specs.Translation.{Fate, line_translation_by}
-use Rattle.smap_trace.specs.Views.{at_most_u64, outcome_of}
+use Rattle.smap_trace.specs.Giving.{Becomes, Give, count_line}
+use Rattle.smap_trace.specs.Known.{Known}
+use Rattle.smap_trace.specs.Translation.{Fate, lines_of}
 
--- the counts with one line more
-abbrev pub count_line : Counts → LineOutcome → Counts
-count_line c Kept = record c { lines = at_most_u64 (c.lines + 1) }
-count_line c Translated =
-    record c { lines = at_most_u64 (c.lines + 1); translated = at_most_u64 (c.translated + 1) }
-count_line c Dropped = record c { lines = at_most_u64 (c.lines + 1); dropped = at_most_u64 (c.dropped + 1) }
+-- If this held of what was known before, it does of what is known after, and a line became something that it
+-- may: the text has that too.
+abbrev pub AppendsLine : (List ℕ → Fate → Type 0) → (Known → Type 0) → List ℕ → Known → List ℕ → Known
+    → List ℕ → LineOutcome → Type 0
+AppendsLine may holds line known text more longer outcome =
+    holds known → holds more × Becomes may line text longer outcome
 
--- the counts with these lines more
-abbrev pub count_lines : (List ℕ → Fate) → Counts → List (List ℕ) → Counts
-count_lines fates c [] = c
-count_lines fates c (line ∷ lines) =
-    count_lines fates (count_line c (outcome_of (fates line))) lines
+-- The same, and it was counted.
+abbrev pub TakesLine : (List ℕ → Fate → Type 0) → (Known → Type 0) → Output → List ℕ → Output → Type 0
+TakesLine may holds old line new = (outcome : LineOutcome)
+    × AppendsLine may holds line old.known old.text.items new.known new.text.items outcome
+    × (new.counts ≡ count_line old.counts outcome)
 
--- A line's translation was appended, and the line was counted.
-abbrev pub TakesLine : (List ℕ → Fate) → Output → List ℕ → Output → Type 0
-TakesLine fates old line new = (new.text.items ≡ old.text.items ++ line_translation_by fates line)
-    × (new.counts ≡ count_line old.counts (outcome_of (fates line)))
+-- where each line becomes what this function says
+abbrev pub IsFate : (List ℕ → Fate) → List ℕ → Fate → Type 0
+IsFate fates line f = f ≡ fates line
+
+-- What the last line gives was written, or a prefix of it, or nothing for want of memory.
+abbrev pub EndsTrace : {W : Type 0} → (List ℕ → Fate → Type 0) → (W → Option (List ℕ)) → Device W → Device W
+    → List ℕ → Counts → Result Counts TraceError → Type 0
+EndsTrace may contents old new line counts (Ok after) =
+    (text : List ℕ) × Took contents old new text × Give may (lines_of line) text counts after
+EndsTrace may contents old new line counts (Err error.Write) = (text : List ℕ) × (after : Counts)
+    × TookPrefix contents old new text × Give may (lines_of line) text counts after
+EndsTrace may contents old new line counts (Err error.Memory) = new ≡ old
+EndsTrace may contents old new line counts (Err error.Read) = ⊥

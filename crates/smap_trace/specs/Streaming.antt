@@ -1,13 +1,15 @@
 -- What `translate` answers, and what it has read and written then.
-use Rattle.std.specs.Prelude.{◌≡◌, ℕ, ◌≤◌, Bool, true, false, List, ◌++◌, length}
+use Rattle.std.specs.Prelude.{◌≡◌, ◌⊎◌, ℕ, ◌≤◌, Bool, true, false, List, [], ◌++◌, length}
 use Rattle.std.specs.Prelude.{Result, Ok, Err, if◌then◌else◌}
 use Rattle.std.specs.Io.KnownBytes.{IsAtEnd}
 pub use Rattle.smap_io.specs.Lines.{complete_of}
+use Rattle.smap_io.specs.Lines.{HasNoFeed, IsWhole}
 use Rattle.smap_io.specs.Streams.{HasRead, HasWritten, ReaderFailsOrTires, Streams, WriterFails}
 use Rattle.smap_trace.specs.declared.outcome.Counts.{Counts}
 use Rattle.smap_trace.specs.declared.error.TraceError.{TraceError}
 use Rattle.smap_trace.specs.declared.error.TraceError.TheVariants as error
-use Rattle.smap_trace.specs.Translation.{Fate, Script, fate, translation_by}
+use Rattle.smap_trace.specs.Giving.{Give, no_counts}
+use Rattle.smap_trace.specs.Translation.{Fate, Script, fate, lines_of, translation_by}
 use Rattle.smap_trace.specs.Views.{counts_by}
 
 -- The complete lines of what was read. Once the end was read, the last line is complete too.
@@ -73,3 +75,63 @@ pub record TranslatesBy (fates : List ℕ → Fate) (s : Streams)
 -- The same where positions are found in frames.
 abbrev pub TranslatesTrace : List Script → Bool → Streams → Result Counts TraceError → Type 0
 TranslatesTrace scripts hide s result = TranslatesBy (fate scripts hide) s result
+
+-- ---- the same where each line may become one thing or another
+
+-- All was read, and what its lines give was written, with these counts.
+pub record GivesAll (may : List ℕ → Fate → Type 0) (s : Streams) (counts : Counts) : Type 0 where
+  pub bytes : List ℕ
+  pub text : List ℕ
+  pub read : HasRead s bytes
+  pub at_end : IsAtEnd s.read_after
+  pub written : HasWritten s text
+  pub give : Give may (lines_of bytes) text no_counts counts
+
+-- Whole lines were read, and perhaps a part of one. What the whole lines give was written.
+pub record GivesWhole (may : List ℕ → Fate → Type 0) (s : Streams) : Type 0 where
+  pub whole : List ℕ
+  pub line : List ℕ
+  pub text : List ℕ
+  pub counts : Counts
+  pub read : HasRead s (whole ++ line)
+  pub is_whole : IsWhole whole
+  pub free : HasNoFeed line
+  pub written : HasWritten s text
+  pub give : Give may (lines_of whole) text no_counts counts
+
+-- After these at most as many bytes were read as one read asks for. Of what some of the lines give that this
+-- piece ended, a prefix was written too.
+pub record GivesPrefix (may : List ℕ → Fate → Type 0) (s : Streams) : Type 0 where
+  pub whole : List ℕ
+  pub line : List ℕ
+  pub text : List ℕ
+  pub counts : Counts
+  pub piece : List ℕ
+  pub ended : List ℕ
+  pub left : List ℕ
+  pub front : List ℕ
+  pub rest : List ℕ
+  pub last : Counts
+  pub read : HasRead s ((whole ++ line) ++ piece)
+  pub is_whole : IsWhole whole
+  pub free : HasNoFeed line
+  pub within : length piece ≤ most_of_one_read
+  pub lines : line ++ piece ≡ ended ++ left
+  pub are_ended : IsWhole ended ⊎ ((s.ended ≡ true) × (left ≡ []))
+  pub written : HasWritten s (text ++ front)
+  pub give : Give may (lines_of whole) text no_counts counts
+  pub give_front : Give may (lines_of ended) (front ++ rest) counts last
+
+-- As much as `Translates` says.
+abbrev pub Gives : (List ℕ → Fate → Type 0) → Streams → Result Counts TraceError → Type 0
+Gives may s (Ok counts) = GivesAll may s counts × (s.ended ≡ true)
+Gives may s (Err error.Read) = GivesWhole may s
+Gives may s (Err error.Write) = GivesPrefix may s
+Gives may s (Err error.Memory) = GivesPrefix may s
+
+-- As `TranslatesBy`.
+pub record GivesBy (may : List ℕ → Fate → Type 0) (s : Streams)
+    (result : Result Counts TraceError) : Type 0 where
+  pub gives : Gives may s result
+  pub reader_failures : ReaderFailsOrTires is_read s result
+  pub writer_failures : WriterFails is_write s result

@@ -1,7 +1,7 @@
 -- Frames that name no script, as JavaScriptCore and Hermes write them of a script without a URL: `f@1:32`.
 -- This project's own rules.
 use Rattle.std.specs.Prelude.{ℕ, ◌+◌, ◌==◌, ◌&&◌, ◌||◌, Bool, false, not, List, ◌∷◌, ◌++◌}
-use Rattle.std.specs.Prelude.{bytes_eq, codes, cond, drop, length, nat_eq, take, Option, None, Some}
+use Rattle.std.specs.Prelude.{bytes_eq, codes, cond, drop, nat_eq, take, Option, None, Some}
 use Rattle.std.specs.List.{prefix_len, starts_with}
 use Rattle.std.specs.Option.{option_map_or}
 use Rattle.smap_frames.specs.Frame.{FrameParts}

@@ -1,17 +1,20 @@
 //! The translation of a line.
 ghost use Rattle.std.specs.Prelude.{◌≡◌, ◌+◌, ◌++◌, ◌<◌, ◌≤◌, List, ℕ, IfOk, OnOk, OnErr, length, option_map};
-ghost use Rattle.std.specs.Prelude.{flat_map, true};
+ghost use Rattle.std.specs.Prelude.{flat_map, IsTrue, true};
 ghost use Rattle.std.specs.Io.{StartsWith};
 ghost use Rattle.std.specs.List.{list_any};
 ghost use Rattle.smap_record.specs.Record.{record_of};
 ghost use Rattle.smap_trace.specs.Anywhere.{pieces_of};
 ghost use Rattle.smap_frames.specs.Frame as frame_spec;
 ghost use Rattle.smap_frames.specs.FrameView.{parts_in};
+ghost use Rattle.smap_trace.specs.Known.{Known};
+ghost use Rattle.smap_trace.specs.Pieces.{AppendsLine, IsFate};
 ghost use Rattle.smap_trace.specs.Translation as spec;
 ghost use Rattle.smap_trace.specs.Translation.{AreDistinct, Fate};
 ghost use Rattle.smap_trace.specs.Views.{outcome_of, scripts_in};
 
 use crate::anywhere::push_pieces;
+use crate::known::KnownFunctions;
 use crate::lookups::origin_at;
 use crate::match_mode::MatchMode;
 use crate::outcome::LineOutcome;
@@ -247,17 +250,44 @@ fn translate_anywhere<M: Maps>(
     translate_pieces(text, feed, maps, ignore_query, out)
 }
 
+/// Appends the translation of a line, or leaves the bytes as they were.
+pub(crate) fn translate_found<M: Maps>(
+    line: &[u8],
+    maps: &M,
+    mode: MatchMode,
+    hide: bool,
+    out: &mut Vec<u8>,
+) -> Result<LineOutcome, AllocError>
+    ensures ok { OnOk result (out.new.items ≡ out.old.items
+        ++ spec.line_translation_by (spec.fate_by mode (M.scripts maps.now) hide) line.now) }
+    ensures err { OnErr result (out.new.items ≡ out.old.items) }
+    ensures outcome { IfOk result (λ o. o
+        ≡ outcome_of (spec.fate_by mode (M.scripts maps.now) hide line.now)) }
+{
+    if mode.anywhere {
+        translate_anywhere(line, maps, mode.ignore_query, hide, out)
+    } else {
+        translate_framed(line, maps, mode.ignore_query, hide, out)
+    }
+}
+
 /// Something that translates lines.
 pub(crate) trait Translator {
-    // what becomes of a line
-    ghost fates: { Self → List ℕ → Fate };
+    // what a line may become
+    ghost may: { Self → List ℕ → Fate → Type 0 };
 
-    /// Appends the translation of a line, or leaves the bytes as they were.
-    fn translate(&self, line: &[u8], out: &mut Vec<u8>) -> Result<LineOutcome, AllocError>
-        ensures ok { OnOk result (out.new.items ≡ out.old.items
-            ++ spec.line_translation_by (fates self.now) line.now) }
-        ensures err { OnErr result (out.new.items ≡ out.old.items) }
-        ensures outcome { IfOk result (λ o. o ≡ outcome_of (fates self.now line.now)) };
+    // what holds of what is known of the functions of sources
+    ghost holds: { Self → Known → Type 0 };
+
+    /// Appends the translation of a line.
+    fn translate(
+        &self,
+        line: &[u8],
+        known: &mut KnownFunctions,
+        out: &mut Vec<u8>,
+    ) -> Result<LineOutcome, AllocError>
+        ensures { IfOk result (AppendsLine (may self.now) (holds self.now) line.now known.old out.old.items
+            known.new out.new.items) };
 }
 
 /// The maps of scripts, and how positions are found and hidden.
@@ -269,15 +299,17 @@ pub(crate) struct ByMaps<'a, M> {
 }
 
 impl<M: Maps> Translator for ByMaps<'_, M> {
-    ghost fates = { λ s. spec.fate_by s.mode (M.scripts s.maps.now) s.hide };
+    ghost may = { λ s. IsFate (spec.fate_by s.mode (M.scripts s.maps.now) s.hide) };
 
-    fn translate(&self, line: &[u8], out: &mut Vec<u8>) -> Result<LineOutcome, AllocError> {
-        let ignore_query = self.mode.ignore_query;
-        if self.mode.anywhere {
-            translate_anywhere(line, self.maps, ignore_query, self.hide, out)
-        } else {
-            translate_framed(line, self.maps, ignore_query, self.hide, out)
-        }
+    ghost holds = { λ s k. IsTrue true };
+
+    fn translate(
+        &self,
+        line: &[u8],
+        _: &mut KnownFunctions,
+        out: &mut Vec<u8>,
+    ) -> Result<LineOutcome, AllocError> {
+        translate_found(line, self.maps, self.mode, self.hide, out)
     }
 }
 
@@ -376,7 +408,7 @@ pub fn translate_line_in<M: Maps>(
     ensures outcome { IfOk result (λ o. o
         ≡ outcome_of (spec.fate_by mode (M.scripts maps.now) hide line.now)) }
 {
-    match (ByMaps { maps, mode, hide }).translate(line, out) {
+    match translate_found(line, maps, mode, hide, out) {
         Ok(outcome) => Ok(outcome),
         Err(_) => Err(Memory),
     }

@@ -1,18 +1,19 @@
 //! The translation of a trace from a reader to a writer: a piece is read, the translation of the lines that
 //! it ends is written, and only then is more read.
-ghost use Rattle.std.specs.Prelude.{◌≡◌, ◌++◌, ◌-◌, ◌<◌, ◌^◌, IfOk, OnOk, OnErr, true, false, []};
+ghost use Rattle.std.specs.Prelude.{◌≡◌, ◌-◌, ◌<◌, ◌^◌, IfOk, OnOk, OnErr, true, false, []};
 ghost use Rattle.smap_io.specs.Calls.{MakesAtMost, StopsInTime};
 ghost use Rattle.smap_io.specs.Device.{device_failures, has_ended, is_over};
 ghost use Rattle.smap_io.specs.Limits.{most_calls};
 ghost use Rattle.smap_io.specs.Lines.{HasNoFeed};
-ghost use Rattle.smap_io.specs.Streams.{ReaderFailsOrTires, Rises, WriterFails, fails_by, streams};
-ghost use Rattle.smap_io.specs.Writing.{Took, TookPrefix};
-ghost use Rattle.smap_trace.specs.Pieces.{TakesLine, count_line, count_lines};
-ghost use Rattle.smap_trace.specs.Streaming.{Translates, TranslatesBy, TranslatesTrace, is_read, is_write};
-ghost use Rattle.smap_trace.specs.Translation.{AreDistinct, fate_by, lines_of, translation_by};
+ghost use Rattle.smap_io.specs.Streams.{Rises, fails_by, streams};
+ghost use Rattle.smap_trace.specs.Giving.{Give, count_line};
+ghost use Rattle.smap_trace.specs.Pieces.{EndsTrace, IsFate, TakesLine};
+ghost use Rattle.smap_trace.specs.Streaming.{GivesBy, TranslatesBy, TranslatesTrace, is_write};
+ghost use Rattle.smap_trace.specs.Translation.{AreDistinct, fate_by, lines_of};
 ghost use Rattle.smap_trace.specs.Views.{scripts_in};
 
 use crate::error::TraceError;
+use crate::known::KnownFunctions;
 use crate::lines::{ByMaps, Translator};
 use crate::match_mode::MatchMode;
 use crate::outcome::{Counts, LineOutcome};
@@ -49,11 +50,13 @@ fn counted(counts: Counts, outcome: LineOutcome) -> Counts
     }
 }
 
-/// What the lines so far have given: their translations, as far as they aren't written yet, and their counts.
+/// What the lines so far have given: their translations, as far as they aren't written yet, and their counts;
+/// and the functions of the sources that they needed.
 #[derive(Drop)]
 pub(crate) struct Output {
     text: Vec<u8>,
     counts: Counts,
+    known: KnownFunctions,
 }
 
 /// What appends the translations of lines, and counts them.
@@ -63,10 +66,12 @@ struct Translating<'a, T> {
 }
 
 impl<T: Translator> EachLine<Output> for Translating<'_, T> {
-    ghost takes = { λ s. TakesLine (T.fates s.lines.now) };
+    ghost takes = { λ s. TakesLine (T.may s.lines.now) (T.holds s.lines.now) };
 
     fn take(&self, so_far: &mut Output, line: &[u8]) -> Result<(), AllocError> {
-        let outcome = self.lines.translate(line, &mut so_far.text)?;
+        let outcome = self
+            .lines
+            .translate(line, &mut so_far.known, &mut so_far.text)?;
         so_far.counts = counted(so_far.counts, outcome);
         Ok(())
     }
@@ -76,9 +81,9 @@ impl<T: Translator> EachLine<Output> for Translating<'_, T> {
 fn end_line<T: Translator>(lines: &T, line: &[u8], so_far: &mut Output) -> Result<(), AllocError>
     requires free { HasNoFeed line.now }
     requires empty { so_far.old.text.items ≡ [] }
-    ensures given { OnOk result (so_far.new.text.items ≡ translation_by (T.fates lines.now) line.now) }
-    ensures counts { OnOk result (so_far.new.counts
-        ≡ count_lines (T.fates lines.now) so_far.old.counts (lines_of line.now)) }
+    requires holds { T.holds lines.now so_far.old.known }
+    ensures { OnOk result (Give (T.may lines.now) (lines_of line.now) so_far.new.text.items
+        so_far.old.counts so_far.new.counts) }
 {
     take_last(&Translating { lines }, so_far, line)
 }
@@ -92,14 +97,10 @@ fn finish<T: Translator, W: Write>(
 ) -> Result<Counts, TraceError>
     requires free { HasNoFeed line.now }
     requires empty { so_far.old.text.items ≡ [] }
+    requires holds { T.holds lines.now so_far.old.known }
     requires writes { device_failures writer.old < 2 ^ 64 - 1 }
-    ensures all { OnOk result (Took W.contents writer.old writer.new
-        (translation_by (T.fates lines.now) line.now)) }
-    ensures counts { IfOk result (λ after. after
-        ≡ count_lines (T.fates lines.now) so_far.old.counts (lines_of line.now)) }
-    ensures part { OnErr result (TookPrefix W.contents writer.old writer.new
-        (translation_by (T.fates lines.now) line.now)) }
-    ensures never_read { fails_by is_read result ≡ false }
+    ensures ends { EndsTrace (T.may lines.now) W.contents writer.old writer.new line.now so_far.old.counts
+        result }
     ensures writer_failures { Rises (fails_by is_write result) (device_failures writer.old)
         (device_failures writer.new) }
     ensures writes_in_time { StopsInTime writer.old writer.new }
@@ -124,11 +125,8 @@ pub(crate) fn translate_with<T: Translator, R: Read, W: Write>(
     requires reads { device_failures reader.old < 2 ^ 64 - 1 }
     requires writes { device_failures writer.old < 2 ^ 64 - 1 }
     requires not_ended { has_ended reader.old ≡ false }
-    ensures translates { Translates (T.fates lines.now)
-        (streams R.remaining reader.old reader.new W.contents writer.old writer.new) result }
-    ensures reader_failures { ReaderFailsOrTires is_read
-        (streams R.remaining reader.old reader.new W.contents writer.old writer.new) result }
-    ensures writer_failures { WriterFails is_write
+    requires holds { T.holds lines.now [] }
+    ensures gives { GivesBy (T.may lines.now)
         (streams R.remaining reader.old reader.new W.contents writer.old writer.new) result }
     ensures calls { MakesAtMost most_calls reader.old reader.new }
     ensures reads_in_time { StopsInTime reader.old reader.new }
@@ -145,6 +143,7 @@ pub(crate) fn translate_with<T: Translator, R: Read, W: Write>(
             translated: 0,
             dropped: 0,
         },
+        known: KnownFunctions::new(alloc),
     };
     'pieces: for _ in 0..MOST_CALLS {
         so_far.text.clear();

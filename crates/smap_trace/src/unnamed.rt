@@ -1,12 +1,13 @@
 //! Frames that name no script, where it is known which one is meant.
 ghost use Rattle.std.specs.Prelude.{◌≡◌, ◌++◌, ◌+◌, ◌≤◌, ◌-◌, ◌<◌, ◌^◌, IfOk, OnErr, OnOk, false, length};
-ghost use Rattle.std.specs.Prelude.{option_map, true};
+ghost use Rattle.std.specs.Prelude.{option_map, IsTrue, true};
 ghost use Rattle.std.specs.Option.{option_map_or};
 ghost use Rattle.smap_frames.specs.Reading.{frame_of};
 ghost use Rattle.smap_io.specs.Calls.{MakesAtMost, StopsInTime};
 ghost use Rattle.smap_io.specs.Device.{device_failures, has_ended, is_over};
 ghost use Rattle.smap_io.specs.Limits.{most_calls};
 ghost use Rattle.smap_io.specs.Streams.{streams};
+ghost use Rattle.smap_trace.specs.Pieces.{IsFate};
 ghost use Rattle.smap_trace.specs.Streaming.{TranslatesBy};
 ghost use Rattle.smap_trace.specs.Translation.{frame_fate, written};
 ghost use Rattle.smap_trace.specs.Unnamed as spec;
@@ -14,7 +15,8 @@ ghost use Rattle.smap_trace.specs.Unnamed.{fate_alone};
 ghost use Rattle.smap_trace.specs.Views.{outcome_of};
 
 use crate::error::TraceError;
-use crate::lines::{ByMaps, Translator, cut_feed, map_for, translate_frame};
+use crate::known::KnownFunctions;
+use crate::lines::{Translator, cut_feed, map_for, translate_found, translate_frame};
 use crate::match_mode::MatchMode;
 use crate::outcome::{Counts, LineOutcome};
 use crate::scripts::Maps;
@@ -132,6 +134,27 @@ fn translate_named<M: Maps>(
     Ok(LineOutcome::Kept)
 }
 
+/// Appends the translation of a line, in which a script may be meant that it doesn't name.
+fn translate_meant<M: Maps>(
+    alloc: Global,
+    line: &[u8],
+    maps: &M,
+    mode: LineMode<'_>,
+    out: &mut Vec<u8>,
+) -> Result<LineOutcome, AllocError>
+    ensures ok { OnOk result (out.new.items ≡ out.old.items ++ written
+        (fate_alone mode.entry.unnamed.now mode.entry.mode (M.scripts maps.now) mode.entry.hide line.now)
+        line.now) }
+    ensures outcome { IfOk result (λ o. o ≡ outcome_of
+        (fate_alone mode.entry.unnamed.now mode.entry.mode (M.scripts maps.now) mode.entry.hide line.now)) }
+{
+    let (text, _) = cut_feed(line);
+    match named_frame(alloc, mode.unnamed, text)? {
+        Some(named) => translate_named(line, &named, maps, mode, out),
+        None => translate_found(line, maps, mode.mode, mode.hide, out),
+    }
+}
+
 /// The maps of scripts, and how lines are translated.
 #[derive(Drop)]
 struct Meaning<'a, M> {
@@ -141,18 +164,18 @@ struct Meaning<'a, M> {
 }
 
 impl<M: Maps> Translator for Meaning<'_, M> {
-    ghost fates = { λ s. fate_alone s.mode.unnamed.now s.mode.mode (M.scripts s.maps.now) s.mode.hide };
+    ghost may = { λ s.
+        IsFate (fate_alone s.mode.unnamed.now s.mode.mode (M.scripts s.maps.now) s.mode.hide) };
 
-    fn translate(&self, line: &[u8], out: &mut Vec<u8>) -> Result<LineOutcome, AllocError> {
-        let (text, _) = cut_feed(line);
-        match named_frame(self.alloc, self.mode.unnamed, text)? {
-            Some(named) => translate_named(line, &named, self.maps, self.mode, out),
-            None => {
-                let LineMode { mode, hide, .. } = self.mode;
-                let maps = self.maps;
-                (ByMaps { maps, mode, hide }).translate(line, out)
-            }
-        }
+    ghost holds = { λ s k. IsTrue true };
+
+    fn translate(
+        &self,
+        line: &[u8],
+        _: &mut KnownFunctions,
+        out: &mut Vec<u8>,
+    ) -> Result<LineOutcome, AllocError> {
+        translate_meant(self.alloc, line, self.maps, self.mode, out)
     }
 }
 

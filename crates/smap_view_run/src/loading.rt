@@ -218,6 +218,30 @@ fn text_in<E: Eprint + AllocGlobal, D: Disk>(
     Ok(Text { name, text, code })
 }
 
+/// The text of a map's script, which is read unless it was before.
+fn text_for<E: Eprint + AllocGlobal, D: Disk>(
+    host: &Host<'_, E, D>,
+    map_path: &str,
+    map: &SourceMap,
+    script: Option<Script>,
+    named: Option<&str>,
+) -> Result<Text, Stop> {
+    text_in(host, script_for(host, map_path, map, script, named)?)
+}
+
+/// What there is to show of a map that was read, with its script, whose place is this.
+fn with_text(found: Found, map: SourceMap, text: Text, place: String) -> Loaded {
+    let Found { name, url, .. } = found;
+    Loaded {
+        map: name,
+        url,
+        script: text.name,
+        place,
+        code: text.code,
+        content: Content::Map(map, text.text),
+    }
+}
+
 /// What there is to show of a map that was read: its script is read, too.
 fn with_script<E: Eprint + AllocGlobal, D: Disk>(
     host: &Host<'_, E, D>,
@@ -226,17 +250,9 @@ fn with_script<E: Eprint + AllocGlobal, D: Disk>(
     script: Option<Script>,
     named: Option<&str>,
 ) -> Result<Loaded, Stop> {
-    let script = script_for(host, found.path.as_str(), &map, script, named)?;
-    let Text { name, text, code } = text_in(host, script)?;
-    let place = String::from_str(host.alloc(), name.as_str())?;
-    Ok(Loaded {
-        map: found.name,
-        url: found.url,
-        script: name,
-        place,
-        code,
-        content: Content::Map(map, text),
-    })
+    let text = text_for(host, found.path.as_str(), &map, script, named)?;
+    let place = String::from_str(host.alloc(), text.name.as_str())?;
+    Ok(with_text(found, map, text, place))
 }
 
 /// Reads a map that was found, and its script.

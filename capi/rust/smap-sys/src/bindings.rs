@@ -56,6 +56,7 @@ pub const SMAP_DROPPED: u32 = 2;
 pub const SMAP_HIDE_IGNORED: u32 = 1;
 pub const SMAP_ANYWHERE: u32 = 2;
 pub const SMAP_IGNORE_QUERY: u32 = 4;
+pub const SMAP_NAMES: u32 = 8;
 pub const SMAP_FILE_OTHER: u32 = 0;
 pub const SMAP_FILE_SCRIPT: u32 = 1;
 pub const SMAP_FILE_STYLE_SHEET: u32 = 2;

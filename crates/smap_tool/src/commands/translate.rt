@@ -3,10 +3,10 @@ ghost use Rattle.std.specs.Prelude.{◌≡◌, ◌-◌, ◌*◌, ◌^◌, ◌<�
 ghost use Rattle.smap_io.specs.Calls.{MakesAtMost, StopsInTime};
 ghost use Rattle.smap_io.specs.Device.{device_failures, has_ended, is_over};
 ghost use Rattle.smap_io.specs.Limits.{most_calls};
-ghost use Rattle.smap_io.specs.Streams.{ReaderFailsOrTires, WriterFails, streams};
-ghost use Rattle.smap_tool.specs.Run.{is_read, is_write};
-ghost use Rattle.smap_tool.specs.Translate.{RunsTranslate, TranslatesTrace, WritesRefusal, fates_asked};
-ghost use Rattle.smap_tool.specs.Translate.{fates_in_frames};
+ghost use Rattle.smap_io.specs.Streams.{streams};
+ghost use Rattle.smap_tool.specs.Translate as spec;
+ghost use Rattle.smap_tool.specs.Translate.{RunsTrace, RunsTranslate, WritesAsked, WritesFates};
+ghost use Rattle.smap_tool.specs.Translate.{WritesRefusal, fates_asked, fates_in_frames};
 ghost use Rattle.smap_tool.specs.BundleLine.{bundle_line};
 ghost use Rattle.clap.specs.Words.{app_of};
 ghost use Rattle.clap.specs.declared.builder.command.Command.TheViews.{out-Command as fields_of};
@@ -19,7 +19,7 @@ use crate::words::with_flag;
 use crate::{Bundle, BundleFault, Refusal, read_bundle};
 use clap::Command;
 use smap_io::Device;
-use smap_trace::{MatchMode, TraceError, translate_in};
+use smap_trace::{Counts, MatchMode, TraceError, translate_in, translate_named_in};
 use std::alloc::{AllocError, Global};
 use std::io::{Read, Write};
 
@@ -42,11 +42,17 @@ pub(crate) fn translate_command<'a>(alloc: Global) -> Result<Command<'a>, AllocE
         "ignore-query",
         "Ignore a query or a fragment behind a script's URL",
     )?;
-    with_flag(
+    let command = with_flag(
         alloc,
         command,
         "hide-ignored",
         "Leave out frames in ignored sources",
+    )?;
+    with_flag(
+        alloc,
+        command,
+        "names",
+        "Give frames the names of functions, where these are sure",
     )
 }
 
@@ -68,11 +74,24 @@ fn refuse<W: Write>(
     write_answer(writer, text.as_slice(), Outcome::Refused)
 }
 
+/// What the run answers.
+fn answer_of(told: Result<Counts, TraceError>) -> Result<Outcome, RunFault>
+    ensures { result ≡ spec.answer_of told }
+{
+    match told {
+        Ok(_) => Ok(Outcome::Done),
+        Err(TraceError::Read) => Err(RunFault::Read),
+        Err(TraceError::Write) => Err(RunFault::Write),
+        Err(TraceError::Memory) => Err(RunFault::Memory),
+    }
+}
+
 /// Translates the trace, up to the end of the input.
 fn translate_trace<R: Read, W: Write>(
     alloc: Global,
     mode: MatchMode,
     hide: bool,
+    names: bool,
     bundle: &Bundle,
     reader: &mut Device<R>,
     writer: &mut Device<W>,
@@ -80,23 +99,18 @@ fn translate_trace<R: Read, W: Write>(
     requires reader { device_failures reader.old < 2 ^ 64 - 1 }
     requires writer { device_failures writer.old < 2 ^ 64 - 1 }
     requires not_ended { has_ended reader.old ≡ false }
-    ensures translates { TranslatesTrace (fates_asked mode hide bundle.now)
-        (streams R.remaining reader.old reader.new W.contents writer.old writer.new) result }
-    ensures reader_failures { ReaderFailsOrTires is_read
-        (streams R.remaining reader.old reader.new W.contents writer.old writer.new) result }
-    ensures writer_failures { WriterFails is_write
+    ensures translates { RunsTrace (WritesAsked names mode hide bundle.now)
         (streams R.remaining reader.old reader.new W.contents writer.old writer.new) result }
     ensures calls { MakesAtMost most_calls reader.old reader.new }
     ensures reads_in_time { StopsInTime reader.old reader.new }
     ensures writes_in_time { StopsInTime writer.old writer.new }
     ensures flushed { OnOk result (is_over writer.new ≡ true) }
 {
-    match translate_in(alloc, reader, bundle.scripts(), mode, hide, writer) {
-        Ok(_) => Ok(Outcome::Done),
-        Err(TraceError::Read) => Err(RunFault::Read),
-        Err(TraceError::Write) => Err(RunFault::Write),
-        Err(TraceError::Memory) => Err(RunFault::Memory),
+    let scripts = bundle.scripts();
+    if names {
+        return answer_of(translate_named_in(alloc, reader, scripts, mode, hide, writer));
     }
+    answer_of(translate_in(alloc, reader, scripts, mode, hide, writer))
 }
 
 /// Reads a bundle, and writes the translation of its trace, line by line as it comes, or the line of the
@@ -127,7 +141,7 @@ pub fn run_translate<R: Read, W: Write>(
     // What was written is the translation of the bundle's trace, or the line of its first fault; nothing
     // was read past what shows this fault. Read and Write come with a failure of their device, and no other
     // answer does.
-    ensures answers { RunsTranslate (fates_in_frames hide)
+    ensures answers { RunsTranslate (WritesFates (fates_in_frames hide))
         (streams R.remaining reader.old reader.new W.contents writer.old writer.new) result }
 
     // The bundle's entries are read by at most 4,294,967,296 calls, and so is the trace.
@@ -162,7 +176,7 @@ pub fn run_translate_by<R: Read, W: Write>(
     // What was written is the translation of the bundle's trace, or the line of its first fault; nothing
     // was read past what shows this fault. Read and Write come with a failure of their device, and no other
     // answer does.
-    ensures answers { RunsTranslate (fates_asked mode hide)
+    ensures answers { RunsTranslate (WritesFates (fates_asked mode hide))
         (streams R.remaining reader.old reader.new W.contents writer.old writer.new) result }
 
     // The bundle's entries are read by at most 4,294,967,296 calls, and so is the trace.
@@ -174,8 +188,30 @@ pub fn run_translate_by<R: Read, W: Write>(
     ensures writes_in_time { StopsInTime writer.old writer.new }
     ensures flushed { OnOk result (is_over writer.new ≡ true) }
 {
+    run_translate_asked(alloc, mode, hide, false, reader, writer)
+}
+
+/// The same, where frames may get the names of functions.
+pub(crate) fn run_translate_asked<R: Read, W: Write>(
+    alloc: Global,
+    mode: MatchMode,
+    hide: bool,
+    names: bool,
+    reader: &mut Device<R>,
+    writer: &mut Device<W>,
+) -> Result<Outcome, RunFault>
+    requires reader { device_failures reader.old < 2 ^ 64 - 1 }
+    requires writer { device_failures writer.old < 2 ^ 64 - 1 }
+    requires not_ended { has_ended reader.old ≡ false }
+    ensures answers { RunsTranslate (WritesAsked names mode hide)
+        (streams R.remaining reader.old reader.new W.contents writer.old writer.new) result }
+    ensures calls { MakesAtMost (2 * most_calls) reader.old reader.new }
+    ensures reads_in_time { StopsInTime reader.old reader.new }
+    ensures writes_in_time { StopsInTime writer.old writer.new }
+    ensures flushed { OnOk result (is_over writer.new ≡ true) }
+{
     match read_bundle(alloc, reader) {
-        Ok(bundle) => translate_trace(alloc, mode, hide, &bundle, reader, writer),
+        Ok(bundle) => translate_trace(alloc, mode, hide, names, &bundle, reader, writer),
         Err(BundleFault::Refused(refusal)) => refuse(alloc, &refusal, writer),
         Err(BundleFault::TooLong) => Err(RunFault::TooLong),
         Err(BundleFault::Read) => Err(RunFault::Read),

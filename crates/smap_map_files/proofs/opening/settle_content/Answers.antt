@@ -5,7 +5,7 @@ use Rattle.smap_map_files.proofs.opening.settle_content.Goals as goal
 
 pub returns-in-Some-clause-settled : goal.returns-in-Some-clause-settled
 returns-in-Some-clause-settled g c =
-    let up = rw c.in-Some.is at c.in_ok-place-in-Script.ensures.reached in
+    let up = rw c.in-Some.is at c.in_ok-place-in-Script.ensures in
     let reached = reached_itself_by _ _ _ _ _ c.in-Some.loaded up in
     settled _ _ _ _ _ c.in-Some.loaded _ c.map_in.result reached c.map_in.ensures.found
 

@@ -16,7 +16,7 @@ pub returns-in-Lookup-clause-answers : goal.returns-in-Lookup-clause-answers
 returns-in-Lookup-clause-answers g c = rw c.in-Lookup.is c.run_lookup.ensures.answers
 
 pub returns-in-Translate-clause-answers : goal.returns-in-Translate-clause-answers
-returns-in-Translate-clause-answers g c = rw c.in-Translate.is c.run_translate_by.ensures.answers
+returns-in-Translate-clause-answers g c = rw c.in-Translate.is c.run_translate_asked.ensures.answers
 
 pub returns-in-Scripts-clause-answers : goal.returns-in-Scripts-clause-answers
 returns-in-Scripts-clause-answers g c = rw c.in-Scripts.is c.run_scripts.ensures.answers
@@ -40,7 +40,7 @@ pub returns-in-Lookup-clause-calls : goal.returns-in-Lookup-clause-calls
 returns-in-Lookup-clause-calls g c = rw c.in-Lookup.is c.run_lookup.ensures.calls
 
 pub returns-in-Translate-clause-calls : goal.returns-in-Translate-clause-calls
-returns-in-Translate-clause-calls g c = rw c.in-Translate.is c.run_translate_by.ensures.calls
+returns-in-Translate-clause-calls g c = rw c.in-Translate.is c.run_translate_asked.ensures.calls
 
 pub returns-in-Scripts-clause-calls : goal.returns-in-Scripts-clause-calls
 returns-in-Scripts-clause-calls g c = rw c.in-Scripts.is c.run_scripts.ensures.calls

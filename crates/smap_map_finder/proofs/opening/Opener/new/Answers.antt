@@ -2,10 +2,9 @@ use Rattle.std.proofs.Common.{rules}
 use Rattle.smap_map_finder.proofs.opening.Opener.new.Goals as goal
 
 pub returns-in-Ok : goal.returns-in-Ok
-returns-in-Ok g c =
+returns-in-Ok c = λ held.
     record {
-      held_is = search rules;
       table_is = search rules;
-      links_are = c.new.ensures (g.D.Disk.held c.args.disk.now) c.args.wanted.now;
+      links_are = c.new.ensures held c.args.wanted.now;
       compared_are = search rules;
     }

@@ -19,12 +19,12 @@ returns-in_err-key-clause-chosen g c =
 
 pub returns-in_err-note_opening-clause-chosen : goal.returns-in_err-note_opening-clause-chosen
 returns-in_err-note_opening-clause-chosen g c =
-    c.note_opening.ensures.chosen (g.D.Disk.held c.args.store.now.disk.now) c.args.self.now.wanted.now
+    c.note_opening.ensures.chosen (g.D.Disk.held c.args.self.now.host.now.disk.now) c.args.self.now.wanted.now
     c.in_ok-map.ensures.tried (chosen_worse _ _ (choices_of c.args.chosen.now) c.opened_under.new.worst
     c.opened_under.ensures.worst c.requires)
 
 pub returns-clause-chosen : goal.returns-clause-chosen
 returns-clause-chosen g c =
-    c.note_opening.ensures.chosen (g.D.Disk.held c.args.store.now.disk.now) c.args.self.now.wanted.now
+    c.note_opening.ensures.chosen (g.D.Disk.held c.args.self.now.host.now.disk.now) c.args.self.now.wanted.now
     c.in_ok-map.ensures.tried (chosen_worse _ _ (choices_of c.args.chosen.now) c.opened_under.new.worst
     c.opened_under.ensures.worst c.requires)

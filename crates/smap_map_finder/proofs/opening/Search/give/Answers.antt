@@ -6,7 +6,7 @@ use Rattle.smap_map_finder.proofs.opening.Search.give.Goals as goal
 
 pub returns-in_err-link-clause-chosen : goal.returns-in_err-link-clause-chosen
 returns-in_err-link-clause-chosen g c =
-    let held = g.D.Disk.held c.args.store.now.disk.now in
+    let held = g.D.Disk.held c.args.self.now.host.now.disk.now in
     let w = c.args.self.now.wanted.now in
     (c.link.ensures.chosen held w
     (subst (AreChosen held w) (sym c.tell_pick.ensures) c.in_ok-number.ensures.chosen)
@@ -19,7 +19,7 @@ returns-in_err-link-clause-grows g c = grows_on _ _ _ c.number_for.ensures.grows
 
 pub returns-clause-chosen : goal.returns-clause-chosen
 returns-clause-chosen g c =
-    let held = g.D.Disk.held c.args.store.now.disk.now in
+    let held = g.D.Disk.held c.args.self.now.host.now.disk.now in
     let w = c.args.self.now.wanted.now in
     (c.link.ensures.chosen held w
     (subst (AreChosen held w) (sym c.tell_pick.ensures) c.in_ok-number.ensures.chosen)
@@ -32,7 +32,7 @@ returns-clause-grows g c = grows_on _ _ _ c.number_for.ensures.grows
 
 pub returns-clause-settled : goal.returns-clause-settled
 returns-clause-settled g c =
-    let held = g.D.Disk.held c.args.store.now.disk.now in
+    let held = g.D.Disk.held c.args.self.now.host.now.disk.now in
     let w = c.args.self.now.wanted.now in
     (c.in_ok-link.ensures.chosen held w
     (subst (AreChosen held w) (sym c.tell_pick.ensures) c.in_ok-number.ensures.chosen)

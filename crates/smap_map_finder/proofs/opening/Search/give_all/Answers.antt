@@ -1,8 +1,7 @@
-use Rattle.std.proofs.Common.{◌∙◌, [], get_or, subst}
+use Rattle.std.proofs.Common.{[]}
 use Rattle.std.proofs.lemmas.List.{take_all}
 use Rattle.std.proofs.lemmas.List.Elements.{All-more}
-use Rattle.smap_system.specs.Held.{Held}
-use Rattle.smap_map_finder.specs.ChosenView.{AreChosen, IsSettledIn, KeepsEnds, choices_of}
+use Rattle.smap_map_finder.specs.ChosenView.{IsSettledIn, choices_of}
 use Rattle.smap_map_finder.proofs.EndLemmas.{one_kept}
 use Rattle.smap_map_finder.proofs.GrowthLemmas.{all_grown, grows_on}
 use Rattle.smap_map_choice.specs.declared.picks.Found.TheVariants.{Given}
@@ -11,7 +10,7 @@ use Rattle.smap_map_finder.proofs.opening.Search.give_all.Goals as goal
 
 pub loop-i-preserved : goal.loop-i-preserved
 loop-i-preserved g c =
-    let held = g.D.Disk.held c.args.store.now.disk.now in
+    let held = g.D.Disk.held c.args.self.now.host.now.disk.now in
     let w = c.args.self.now.wanted.now in
     let frames = c.args.in_frames in
     let after = choices_of c.give.new.chosen in
@@ -21,14 +20,11 @@ loop-i-preserved g c =
     record {
       settled = All-more (λ (p : Pick). IsSettledIn held w frames after p.name.now) picks c.loop-i.i d
           c.loop-i-test.true (all_grown held w frames _ _ _ c.give.ensures.grows was.settled)
-          (subst (λ (h : Held). IsSettledIn h w frames after (get_or picks c.loop-i.i d).name.now) was.held
-          c.in_ok-give.ensures.settled);
-      chosen = subst (λ (h : Held). AreChosen h w after) was.held c.give.ensures.chosen;
+          c.in_ok-give.ensures.settled;
+      chosen = c.give.ensures.chosen;
       grows = grows_on _ _ _ was.grows c.give.ensures.grows;
       ends = one_kept held w frames picks c.loop-i.i d _ _ _ c.loop-i-test.true c.requires.picked was.ends
-          (subst (λ (h : Held). KeepsEnds h w (get_or picks c.loop-i.i d).name.now
-          (get_or picks c.loop-i.i d).found (choices_of c.loop-i.chosen) after) was.held c.give.ensures.ends);
-      held = c.give.ensures.held ∙ was.held;
+          c.give.ensures.ends;
     }
 
 pub returns-clause-settled : goal.returns-clause-settled
@@ -37,14 +33,13 @@ returns-clause-settled g c =
 
 pub returns-in_err-give-clause-ends : goal.returns-in_err-give-clause-ends
 returns-in_err-give-clause-ends g c =
-    let held = g.D.Disk.held c.args.store.now.disk.now in
+    let held = g.D.Disk.held c.args.self.now.host.now.disk.now in
     let w = c.args.self.now.wanted.now in
     let picks = c.args.picks.now in
     let was = c.loop-i.invariant in
     let d : Pick = record { name = record { ref_ptr = (0, 0); now = [] }; found = Given 0 } in
     one_kept held w c.args.in_frames picks c.loop-i.i d _ _ _ c.loop-i-test.true c.requires.picked was.ends
-    (subst (λ (h : Held). KeepsEnds h w (get_or picks c.loop-i.i d).name.now (get_or picks c.loop-i.i d).found
-    (choices_of c.loop-i.chosen) (choices_of c.give.new.chosen)) was.held c.give.ensures.ends)
+    c.give.ensures.ends
 
 pub returns-in_err-give-clause-grows : goal.returns-in_err-give-clause-grows
 returns-in_err-give-clause-grows g c = grows_on _ _ _ c.loop-i.invariant.grows c.give.ensures.grows

@@ -1,7 +1,6 @@
 use Rattle.std.proofs.Common.{OnOk, List, map, subst, ℕ}
 use Rattle.std.specs.List.{All}
 use Rattle.std.proofs.lemmas.List.Elements.{All-map}
-use Rattle.smap_system.specs.Held.{Held}
 use Rattle.smap_map_finder.specs.ChosenView.{IsSettledIn, KeepEnds, choices_of}
 use Rattle.smap_map_finder.proofs.GrowthLemmas.{on_ok}
 use Rattle.smap_map_choice.specs.declared.picks.Pick.{Pick}
@@ -17,8 +16,7 @@ returns-clause-settled g c =
     let settled : OnOk c.give_all.result (All (λ (p : Pick). Is p.name.now) c.in_ok-picks.picks.items) =
     subst (λ (l : List Pick). OnOk c.give_all.result (All (λ (p : Pick). Is p.name.now) l))
     c.deref.ensures.value
-    (subst (λ (h : Held). OnOk c.give_all.result (All (λ (p : Pick). IsSettledIn h w frames after p.name.now)
-    c.deref.result.now)) c.picks_of.ensures.over.held_is c.give_all.ensures.settled) in
+    c.give_all.ensures.settled in
     on_ok c.give_all.result (λ all. subst (All Is) c.in_ok-picks.ensures.picked.named
     (All-map Is name_of c.in_ok-picks.picks.items all)) settled
 
@@ -31,6 +29,4 @@ returns-clause-ends g c =
     let name_of = λ (p : Pick). p.name.now in
     subst (λ (names : List (List ℕ)). KeepEnds held w names before after) c.in_ok-picks.ensures.picked.named
     (subst (λ (l : List Pick). KeepEnds held w (map name_of l) before after) c.deref.ensures.value
-    (subst (λ (h : Held). KeepEnds h w (map name_of c.deref.result.now) before after)
-    c.picks_of.ensures.over.held_is
-    c.give_all.ensures.ends))
+    c.give_all.ensures.ends)

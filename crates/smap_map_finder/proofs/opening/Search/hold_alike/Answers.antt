@@ -1,4 +1,3 @@
-use Rattle.std.proofs.Common.{◌≡◌, sym}
 use Rattle.smap_system.specs.Held.{IsHeld}
 use Rattle.smap_map_finder.specs.Choice.{IsOneMap}
 use Rattle.smap_map_finder.proofs.CopyLemmas.{alike_of}

@@ -14,19 +14,19 @@ returns-then-not-is_find-clause-number g c =
     c.is_find.ensures.out (choices_of c.args.chosen.now) c.if-not-is_find.true
 
 pub returns-in_err-number-clause-ends : goal.returns-in_err-number-clause-ends
-returns-in_err-number-clause-ends g c = then_keeps (g.D.Disk.held c.args.store.now.disk.now)
+returns-in_err-number-clause-ends g c = then_keeps (g.D.Disk.held c.args.self.now.host.now.disk.now)
     c.args.self.now.wanted.now
     c.args.pick.now.name.now c.args.pick.now.found _ _ _
     (ap (λ (d : Choices). d.ends) c.turn_of-turn.ensures.chosen) c.open_one.ensures.ends
 
 pub returns-then-is_some-clause-ends : goal.returns-then-is_some-clause-ends
-returns-then-is_some-clause-ends g c = then_keeps (g.D.Disk.held c.args.store.now.disk.now)
+returns-then-is_some-clause-ends g c = then_keeps (g.D.Disk.held c.args.self.now.host.now.disk.now)
     c.args.self.now.wanted.now
     c.args.pick.now.name.now c.args.pick.now.found _ _ _
     (ap (λ (d : Choices). d.ends) c.turn_of-turn.ensures.chosen) c.open_one.ensures.ends
 
 pub returns-else-eq-2-clause-ends : goal.returns-else-eq-2-clause-ends
-returns-else-eq-2-clause-ends g c = then_keeps (g.D.Disk.held c.args.store.now.disk.now)
+returns-else-eq-2-clause-ends g c = then_keeps (g.D.Disk.held c.args.self.now.host.now.disk.now)
     c.args.self.now.wanted.now
     c.args.pick.now.name.now c.args.pick.now.found _ _ _
     (ap (λ (d : Choices). d.ends) c.turn_of-turn.ensures.chosen) c.open_one.ensures.ends

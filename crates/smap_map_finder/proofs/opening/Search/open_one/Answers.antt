@@ -10,7 +10,7 @@ returns-in_err-map-clause-chosen g c =
 
 pub returns-in_err-number-clause-chosen : goal.returns-in_err-number-clause-chosen
 returns-in_err-number-clause-chosen g c =
-    c.note_opening.ensures.chosen (g.D.Disk.held c.args.store.now.disk.now) c.args.self.now.wanted.now
+    c.note_opening.ensures.chosen (g.D.Disk.held c.args.self.now.host.now.disk.now) c.args.self.now.wanted.now
     c.in_ok-map.ensures.tried
     (chosen_worse _ _ (choices_of c.args.chosen.now) c.opened_under.new.worst c.opened_under.ensures.worst
     c.requires.chosen)
@@ -28,7 +28,7 @@ returns-clause-served g c =
 
 pub returns-clause-chosen : goal.returns-clause-chosen
 returns-clause-chosen g c =
-    let held = g.D.Disk.held c.args.store.now.disk.now in
+    let held = g.D.Disk.held c.args.self.now.host.now.disk.now in
     let w = c.args.self.now.wanted.now in
     c.note_end.ensures.chosen held w (c.note_opening.ensures.chosen held w c.in_ok-map.ensures.tried
     (chosen_worse _ _ (choices_of c.args.chosen.now) c.opened_under.new.worst c.opened_under.ensures.worst
@@ -43,22 +43,23 @@ returns-clause-grows g c =
 
 pub returns-in_err-note_end-clause-chosen : goal.returns-in_err-note_end-clause-chosen
 returns-in_err-note_end-clause-chosen g c =
-    let held = g.D.Disk.held c.args.store.now.disk.now in
+    let held = g.D.Disk.held c.args.self.now.host.now.disk.now in
     let w = c.args.self.now.wanted.now in
     c.note_end.ensures.chosen held w (c.note_opening.ensures.chosen held w c.in_ok-map.ensures.tried
     (chosen_worse _ _ (choices_of c.args.chosen.now) c.opened_under.new.worst c.opened_under.ensures.worst
     c.requires.chosen))
 
 pub returns-in_err-note_end-clause-ends : goal.returns-in_err-note_end-clause-ends
-returns-in_err-note_end-clause-ends g c = then_keeps (g.D.Disk.held c.args.store.now.disk.now)
+returns-in_err-note_end-clause-ends g c = then_keeps (g.D.Disk.held c.args.self.now.host.now.disk.now)
     c.args.self.now.wanted.now c.args.pick.now.name.now c.args.pick.now.found _ _ _
     c.note_opening.ensures.ends
-    (c.note_end.ensures.ends (g.D.Disk.held c.args.store.now.disk.now) c.args.self.now.wanted.now)
+    (c.note_end.ensures.ends (g.D.Disk.held c.args.self.now.host.now.disk.now) c.args.self.now.wanted.now)
 
 pub returns-clause-ends : goal.returns-clause-ends
-returns-clause-ends g c = then_keeps (g.D.Disk.held c.args.store.now.disk.now) c.args.self.now.wanted.now
-    c.args.pick.now.name.now c.args.pick.now.found _ _ _ c.note_opening.ensures.ends
-    (c.note_end.ensures.ends (g.D.Disk.held c.args.store.now.disk.now) c.args.self.now.wanted.now)
+returns-clause-ends g c = then_keeps (g.D.Disk.held c.args.self.now.host.now.disk.now)
+    c.args.self.now.wanted.now c.args.pick.now.name.now c.args.pick.now.found _ _ _
+    c.note_opening.ensures.ends
+    (c.note_end.ensures.ends (g.D.Disk.held c.args.self.now.host.now.disk.now) c.args.self.now.wanted.now)
 
 pub returns-in_err-note_end-clause-grows : goal.returns-in_err-note_end-clause-grows
 returns-in_err-note_end-clause-grows g c =
