@@ -7,14 +7,15 @@
 #include <pthread.h>
 
 /* A map that handles share is freed after the last use by any of them: closing one lowers a count by one
- * locked instruction, which the thread sanitizer can't see in the archive. Here it is told of that order. */
+ * locked instruction, which the thread sanitizer can't see in the archive. Here it is told of that order, by a
+ * lock that handles are closed under. */
 #if defined(__SANITIZE_THREAD__) && !defined(ORDER_UNTOLD)
-void __tsan_acquire(void *at);
-void __tsan_release(void *at);
-static int count;
-#define ORDER() (__tsan_release(&count), __tsan_acquire(&count))
+static pthread_mutex_t order = PTHREAD_MUTEX_INITIALIZER;
+#define BEGIN_ORDER() pthread_mutex_lock(&order)
+#define END_ORDER() pthread_mutex_unlock(&order)
 #else
-#define ORDER() ((void)0)
+#define BEGIN_ORDER() ((void)0)
+#define END_ORDER() ((void)0)
 #endif
 
 enum { THREADS = 8, HELD = 4, COMMON = 4, MAPS = 2, NUMBERS = 4, ROOM = 512 };
@@ -62,8 +63,9 @@ static void ask_trace(smap_map *map, answer *a)
               smap_add_script(&scripts, "v", 1, map) ||
               smap_translate(&scripts, trace, strlen(trace), SMAP_HIDE_IGNORED, &bytes, NULL);
     put_bytes(a, &bytes);
-    ORDER();
+    BEGIN_ORDER();
     smap_close_scripts(&scripts);
+    END_ORDER();
 }
 
 /* What a call says of a map: its code, and what it writes, numbers as text. */
@@ -137,17 +139,20 @@ static bool is_right(held *mine, uint32_t *dice)
 {
     held *one = &mine[roll(dice, HELD)], *other = &mine[roll(dice, HELD)];
     int call = (int)roll(dice, CALLS);
-    uint32_t i = roll(dice, NUMBERS);
+    uint32_t i = roll(dice, NUMBERS), code;
     answer found;
     switch (roll(dice, 8)) {
     case 0:
         if (one == other) break;
-        ORDER();
         other->of = one->of;
-        return smap_share(&one->map, &other->map) == SMAP_OK;
+        BEGIN_ORDER();
+        code = smap_share(&one->map, &other->map);
+        END_ORDER();
+        return code == SMAP_OK;
     case 1:
-        ORDER();
+        BEGIN_ORDER();
         smap_close(&one->map);
+        END_ORDER();
         one->of = i % MAPS;
         return open_text(&one->map, texts[one->of], NULL) == SMAP_OK;
     case 2:
@@ -165,8 +170,9 @@ static void *run(void *number)
     long wrong = 0;
     for (uint32_t i = 0; i < HELD; i++) wrong += !take(&mine[i], i);
     for (int i = 0; i < rounds; i++) wrong += !is_right(mine, &dice);
-    ORDER();
+    BEGIN_ORDER();
     for (uint32_t i = 0; i < HELD; i++) smap_close(&mine[i].map);
+    END_ORDER();
     return (void *)wrong;
 }
 
