@@ -15,7 +15,7 @@ unpacks_anywhere() {
 runs_alone() {
     mkdir -p "$work/alone/share" && cp -R "$work/example/." "$usr/bin" "$work/alone" &&
         cp -R "$usr/share/smap" "$work/alone/share" || return 1
-    as_root chroot "$work/alone" /bin/smap-trace dist/ crash.log >"$work/written" &&
+    as_root chroot "$work/alone" /bin/smap-trace --names dist/ crash.log >"$work/written" &&
         diff "$work/alone/wanted" "$work/written" &&
         as_root chroot "$work/alone" /bin/smap-view dist/cart.js.map >"$work/page.html" &&
         grep -q src/cart.ts "$work/page.html"
