@@ -30,3 +30,6 @@ mod EndedLemmas
 pub mod NameLemmas
 pub mod KnownSourceLemmas
 pub mod KnownMapLemmas
+pub mod LackLemmas
+pub mod OneMapLemmas
+pub mod RenamedFrameLemmas

@@ -3,8 +3,8 @@ use Rattle.std.proofs.Common.{◌≡◌, ℕ, ◌++◌, Bool, List, Option, refl
 use Rattle.std.specs.Prelude.{IfSome, Some, option_map}
 use Rattle.smap_frames.specs.Frame.{FrameParts}
 use Rattle.smap_frames.specs.Reading.{frame_of}
-use Rattle.smap_trace.specs.Known.{AreKnown, GivesName, Known, OneMapEach}
-use Rattle.smap_trace.specs.NamedFates.{Holds, MayBecome, fate_with}
+use Rattle.smap_trace.specs.Known.{AreKnown, GivesName, Known}
+use Rattle.smap_trace.specs.NamedFates.{MayBecome, fate_with}
 use Rattle.smap_trace.specs.Names.{IsRenamed, around_of, mapped}
 use Rattle.smap_trace.specs.Pieces.{AppendsLine}
 use Rattle.smap_trace.specs.Scripts.{Script}
@@ -18,23 +18,23 @@ pub line_named : {E : Type 0} (mode : MatchMode) (scripts : List Script) (hide :
     (given : Option RenamedFrame) (old new : Known) (before after : List ℕ) (r : Result LineOutcome E)
     → text ≡ without_line_feed line
     → IfSome given (λ r. (f : FrameParts) × (frame_of text ≡ Some f) × IsRenamed f.before r)
-    → (OneMapEach mode.ignore_query scripts → AreKnown mode.ignore_query scripts old
+    → (AreKnown mode.ignore_query scripts old
     → AreKnown mode.ignore_query scripts new
     × GivesName (mapped mode.ignore_query scripts text) new (option_map around_of given))
     → OnOk r (after ≡ before ++ written (fate_with (option_map around_of given) mode scripts hide line) line)
     → IfOk r (λ o. o ≡ outcome_of (fate_with (option_map around_of given) mode scripts hide line))
-    → IfOk r (AppendsLine (MayBecome mode scripts hide) (Holds mode.ignore_query scripts) line old before new
-    after)
+    → IfOk r (AppendsLine (MayBecome mode scripts hide) (AreKnown mode.ignore_query scripts) line old before
+    new after)
 line_named mode scripts hide line text given old new before after (Err e) is name exact ok outcome = tt
 line_named mode scripts hide line text given old new before after (Ok o) is name exact ok outcome = λ holds. (
-  λ one. (exact one (holds one)).0,
+  (exact holds).0,
   (
     fate_with (option_map around_of given) mode scripts hide line,
     record {
       given = given;
       gets = record {
         name = rw is at name;
-        exact = λ one. let e = exact one (holds one) in (new, e.0, rw is at e.1);
+        exact = (new, (exact holds).0, rw is at (exact holds).1);
       };
       is = refl;
     },

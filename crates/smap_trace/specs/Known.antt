@@ -1,5 +1,5 @@
 -- What is known of the functions of sources.
-use Rattle.std.specs.Prelude.{◌≡◌, ◌⊎◌, ℕ, nat_eq, Bool, false, List, bytes_eq, map, slice_get, Option}
+use Rattle.std.specs.Prelude.{◌≡◌, ◌⊎◌, ℕ, nat_eq, Bool, List, bytes_eq, map, slice_get, Option}
 use Rattle.std.specs.Prelude.{None, Some, option_and_then}
 use Rattle.std.specs.Global.{Vec}
 use Rattle.std.specs.Map.{lookup}
@@ -68,6 +68,6 @@ GivesName None known given = given ≡ None
 GivesName (Some p) known given = (number : ℕ) × (slice_get p.map.sources number ≡ Some p.origin.source)
     × (given ≡ renamed_by p (of_source known p.frame.url number))
 
--- Where queries count, this holds of any scripts.
+-- This holds of any scripts.
 abbrev pub OneMapOfAUrl : Type 0
-OneMapOfAUrl = (scripts : List Script) → OneMapEach false scripts
+OneMapOfAUrl = (ignore : Bool) (scripts : List Script) → OneMapEach ignore scripts

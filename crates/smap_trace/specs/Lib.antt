@@ -17,6 +17,7 @@ pub mod Naming
 pub mod OccurrenceView
 pub mod Pieces
 pub mod Positions
+pub mod RenamedFrame
 pub mod Scripts
 pub mod Streaming
 pub mod Table

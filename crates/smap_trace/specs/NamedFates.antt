@@ -4,7 +4,7 @@ use Rattle.std.specs.Prelude.{Option, None, Some, option_map}
 use Rattle.std.specs.Option.{option_map_or}
 use Rattle.smap_frames.specs.Frame.{FrameParts}
 use Rattle.smap_frames.specs.Reading.{frame_of}
-use Rattle.smap_trace.specs.Known.{AreKnown, GivesName, Known, OneMapEach}
+use Rattle.smap_trace.specs.Known.{AreKnown, GivesName, Known}
 use Rattle.smap_trace.specs.Names.{Around, IsRenamed, around_of, mapped}
 use Rattle.smap_trace.specs.Scripts.{Script}
 use Rattle.smap_trace.specs.Translation.{Fate, fate_by, fate_in, frame_fate, kept, line_translation_by}
@@ -34,12 +34,12 @@ fate_with (Some a) mode scripts hide line = if is_framed mode scripts hide line
     then renamed_fate a mode.ignore_query scripts hide (without_line_feed line)
     else fate_by mode scripts hide line
 
--- A frame gets the name of a function. If frames with one URL are in the script of one map, what a line gets
--- is exactly what the definition says by what is known of the sources of these maps.
+-- A frame gets the name of a function. What a line gets is exactly what the definition says by what is known
+-- of the sources of these maps.
 pub record Gets (ignore : Bool) (scripts : List Script) (text : List ℕ) (given : Option RenamedFrame)
     : Type 0 where
   pub name : IfSome given (λ r. (f : FrameParts) × (frame_of text ≡ Some f) × IsRenamed f.before r)
-  pub exact : OneMapEach ignore scripts → (known : Known) × AreKnown ignore scripts known
+  pub exact : (known : Known) × AreKnown ignore scripts known
       × GivesName (mapped ignore scripts text) known (option_map around_of given)
 
 -- A line becomes what it does without names, with what it gets in place of what is around its position.
@@ -48,7 +48,3 @@ pub record MayBecome (mode : MatchMode) (scripts : List Script) (hide : Bool) (l
   pub given : Option RenamedFrame
   pub gets : Gets mode.ignore_query scripts (without_line_feed line) given
   pub is : f ≡ fate_with (option_map around_of given) mode scripts hide line
-
--- For private contracts: as much is known as `exact` needs.
-abbrev pub Holds : Bool → List Script → Known → Type 0
-Holds ignore scripts known = OneMapEach ignore scripts → AreKnown ignore scripts known

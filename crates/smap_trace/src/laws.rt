@@ -3,6 +3,7 @@ ghost use Rattle.smap_trace.specs.Ends.{NothingIsPast, WithinAllStays};
 ghost use Rattle.smap_trace.specs.Laws.{CutIsComputed, FramesAreFoundAnywhere, LinesAreCounted};
 ghost use Rattle.smap_trace.specs.Known.{OneMapOfAUrl};
 ghost use Rattle.smap_trace.specs.Laws.{LookupIsComputed, OneCut, PiecesAreTheLine};
+ghost use Rattle.smap_trace.specs.RenamedFrame.{RenamedStaysAFrame};
 
 pub use smap_frames::laws::{frames_are_computed, one_reading};
 
@@ -50,7 +51,14 @@ pub fn frames_are_found_anywhere()
     ensures { FramesAreFoundAnywhere }
 {}
 
-/// Where queries count, frames with one URL are in the script of one map.
+/// Frames with one URL are in the script of one map, whether or not queries are ignored.
 pub fn one_map_of_a_url()
     ensures { OneMapOfAUrl }
+{}
+
+/// A frame that gets the name of a function, as
+/// [`rename_frame`](crate::rename_frame) gives it, and the position that a translation puts there, is still a
+/// frame, of the form that it had.
+pub fn renamed_stays_a_frame()
+    ensures { RenamedStaysAFrame }
 {}

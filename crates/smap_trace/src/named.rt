@@ -5,8 +5,9 @@ ghost use Rattle.smap_io.specs.Device.{device_failures, has_ended, is_over};
 ghost use Rattle.smap_io.specs.Limits.{most_calls};
 ghost use Rattle.smap_io.specs.Streams.{streams};
 ghost use Rattle.smap_trace.specs.Giving.{Becomes};
+ghost use Rattle.smap_trace.specs.Known.{AreKnown};
 ghost use Rattle.smap_trace.specs.NamedFates as spec;
-ghost use Rattle.smap_trace.specs.NamedFates.{Holds, MayBecome};
+ghost use Rattle.smap_trace.specs.NamedFates.{MayBecome};
 ghost use Rattle.smap_trace.specs.Names.{around_of};
 ghost use Rattle.smap_trace.specs.Streaming.{GivesBy};
 ghost use Rattle.smap_trace.specs.Translation.{written, without_line_feed};
@@ -122,7 +123,7 @@ struct Naming<'a, M> {
 impl<M: Maps> Translator for Naming<'_, M> {
     ghost may = { λ s. MayBecome s.mode (M.scripts s.maps.now) s.hide };
 
-    ghost holds = { λ s. Holds s.mode.ignore_query (M.scripts s.maps.now) };
+    ghost holds = { λ s. AreKnown s.mode.ignore_query (M.scripts s.maps.now) };
 
     fn translate(
         &self,

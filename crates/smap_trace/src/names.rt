@@ -9,7 +9,7 @@ ghost use Rattle.smap_functions.specs.Lines.{AreLines};
 ghost use Rattle.smap_functions.specs.Names.{IsName, words_of};
 ghost use Rattle.smap_record.specs.Record.{record_of};
 ghost use Rattle.smap_record.specs.Views.{entry_of_view, mapping_of_view, origin_of_view};
-ghost use Rattle.smap_trace.specs.Known.{AreKnown, GivesName, OneMapEach};
+ghost use Rattle.smap_trace.specs.Known.{AreKnown, GivesName};
 ghost use Rattle.smap_trace.specs.Names as spec;
 ghost use Rattle.smap_trace.specs.Names.{IsRenamed};
 ghost use Rattle.smap_trace.specs.NamesView.{IsMapped, IsOfContent, mapped_of};
@@ -324,8 +324,7 @@ pub fn rename_frame<M: Maps>(
 
     // If what is known is of the sources of these maps, it stays so, and what the frame gets is exactly what
     // the definition says by what is known then.
-    ensures exact { OneMapEach ignore_query (M.scripts maps.now)
-        → AreKnown ignore_query (M.scripts maps.now) known.old
+    ensures exact { AreKnown ignore_query (M.scripts maps.now) known.old
         → IfOk result (λ o. AreKnown ignore_query (M.scripts maps.now) known.new
         × GivesName (spec.mapped ignore_query (M.scripts maps.now) text.now) known.new
         (option_map spec.around_of o)) }

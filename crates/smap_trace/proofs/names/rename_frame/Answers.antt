@@ -8,7 +8,7 @@ use Rattle.smap_trace.proofs.names.rename_frame.Goals as goal
 
 pub returns-in_ok-renamed_in-in-Some-of-clause-exact :
     goal.returns-in_ok-renamed_in-in-Some-of-clause-exact
-returns-in_ok-renamed_in-in-Some-of-clause-exact g c = λ one are.
+returns-in_ok-renamed_in-in-Some-of-clause-exact g c = λ are.
     let scripts = g.M.Maps.scripts c.args.maps.now in
     let p = mapped_of c.in-Some.mapped in
     let is = c.in-Some.ensures.value in
@@ -16,7 +16,7 @@ returns-in_ok-renamed_in-in-Some-of-clause-exact g c = λ one are.
     let at = c.in-Some.ensures.mapped.0.number in
     let known = known_on c.args.ignore_query scripts c.args.text.now p c.args.known.now c.read.new.self n
     is at
-    c.in_ok-read.ensures one are in
+    c.in_ok-read.ensures are in
     let source = c.in-Some-of.source.now in
     let here = ap option_copied (sym c.in-Some-of.is) ∙ c.of.ensures in
     let of = known p.frame.url n source p.map p.origin.source (sym here)
