@@ -5,13 +5,16 @@
 //! - `functions`: the functions of texts ([`texts`]).
 //! - `repair URL`, `mappings URL`: a map with this URL repaired, or its mappings ([`repairs`]).
 //! - `call NAME`: the call of the libraries with this name ([`calls`]).
+//! - `example`: a trace translated by the example of the library ([`example`]).
 //!
-//! The status is 2 for other words, 3 where reading or writing fails, and 4 without memory.
+//! The status is 1 where the example gives up, 2 for other words, 3 where reading or writing fails, and 4 without
+//! memory.
 #![tactic(auto)]
 
 mod answers;
 mod calls;
 mod codec;
+mod example;
 mod maps;
 mod ranges;
 mod repairs;
@@ -51,6 +54,7 @@ fn answer(rt: &HostRuntime, words: &[String], text: &[u8]) -> u8 {
     match words {
         [_, what] if what.as_str() == "ranges" => ranges::ranges(rt, text),
         [_, what] if what.as_str() == "functions" => texts::print_functions(rt, text),
+        [_, what] if what.as_str() == "example" => u8::from(example::example(rt, text).is_err()),
         [_, what, name] if what.as_str() == "call" => calls::call(rt, name.as_str(), text),
         [_, what, url] => with_map(rt, what.as_str(), url.as_str(), text),
         _ => 2,

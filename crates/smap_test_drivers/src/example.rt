@@ -1,6 +1,5 @@
 //! An example of the library: reads a source map, looks a position up, prints the canonical form of the map,
-//! and translates the stack trace on standard input.
-#![tactic(auto)]
+//! and translates a stack trace.
 
 use smap_canon::canonical;
 use smap_io::{Device, Failed, write_all};
@@ -14,7 +13,7 @@ const MAP: &[u8] = br#"{"version":3,"sources":["a.js"],"mappings":"AAUE,IAEA"}"#
 
 /// Why the example gave up.
 #[derive(Debug, Drop, Error)]
-enum ExampleError {
+pub enum ExampleError {
     #[error("the base is not a URL")]
     Base,
     #[error("the map is refused: {0}")]
@@ -88,8 +87,8 @@ fn print_canonical(rt: &HostRuntime, map: &SourceMap) -> Result<(), ExampleError
 }
 
 /// The trace counts lines and columns from 1.
-fn print_translated(rt: &HostRuntime, map: &SourceMap) -> Result<(), ExampleError> {
-    let mut reader = Device::new(rt.reader());
+fn print_translated(rt: &HostRuntime, map: &SourceMap, trace: &[u8]) -> Result<(), ExampleError> {
+    let mut reader = Device::new(trace);
     let mut writer = Device::new(io::writer(rt));
     let scripts = [("http://h/m/out.js", map)];
     let counts = translate(
@@ -106,10 +105,10 @@ fn print_translated(rt: &HostRuntime, map: &SourceMap) -> Result<(), ExampleErro
     Ok(())
 }
 
-fn main(rt: HostRuntime) -> Result<(), ExampleError> {
+pub fn example(rt: &HostRuntime, trace: &[u8]) -> Result<(), ExampleError> {
     let base = Base::new(rt.alloc(), "http://h/m/out.js.map")?;
     let map = SourceMap::from_slice(rt.alloc(), MAP, &base, Limits::usual())?;
-    print_original(&rt, &map)?;
-    print_canonical(&rt, &map)?;
-    print_translated(&rt, &map)
+    print_original(rt, &map)?;
+    print_canonical(rt, &map)?;
+    print_translated(rt, &map, trace)
 }
