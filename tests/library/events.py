@@ -262,8 +262,8 @@ class ShapesTest(EventsCase):
         none = object()
         names = [
             (1, 1, "t", "formatPrice"), (1, 1, "async*t", "formatPrice"), (1, 1, "\ud800", "formatPrice"),
-            (2, 1, "f.total", "Cart.total"), (4, 1, "new s", "new Account"), (7, 1, "Object.render", "Object.render"),
-            (5, 1, "get size [as size]", "get Cart.size [as size]"), (8, 1, "async be", "async main"),
+            (2, 1, "f.total", "Cart.total"), (4, 1, "new s", "new Account"), (8, 1, "async be", "async main"),
+            (5, 1, "get size [as size]", "get Cart.size [as size]"), (7, 1, "Object.render", "Object.render"),
             # without a name
             (9, 1, "?", "main"), (9, 1, "<anonymous>", "main"), (9, 1, "", "main"), (9, 1, None, "main"),
             (9, 1, none, "main"),
@@ -287,17 +287,17 @@ class ShapesTest(EventsCase):
 
             def frames_of(told):
                 for line in told:
-                    stack, = json.loads(line).values()
+                    (stack,) = json.loads(line).values()
                     yield from stack["frames"] if isinstance(stack, dict) else stack
 
             told, said, status = self.events(*lines, options=["--names", "--no-raw"])
             self.assertEqual(status, 0, said)
             found = list(frames_of(told))
-            self.assertEqual([frame.get(member, none) for frame in found], [wanted for *_, wanted in names] * 2)
+            self.assertEqual([frame.get(member, none) for frame in found], [name for *_, name in names] * 2)
             plain = list(frames_of(self.events(*lines, options=["--no-raw"])[0]))
             self.assertEqual([{**one, member: 0} for one in found], [{**one, member: 0} for one in plain])
-        stack = f"Error: x\n    at f.total ({script}:2:1)\nt@{script}:1:1\n    at a ({script}:11:1)"
-        wanted = f"Error: x\n    at Cart.total ({source}:6:25)\nformatPrice@{source}:2:16\n    at a ({source}:14:20)"
+        stack = f"    at f.total ({script}:2:1)\nt@{script}:1:1\n    at a ({script}:11:1)"
+        wanted = f"    at Cart.total ({source}:6:25)\nformatPrice@{source}:2:16\n    at a ({source}:14:20)"
         told = self.told({"stack": stack, "x": {"stack_trace": stack.split("\n")}}, "--names", "--no-raw")
         self.assertEqual(told, {"stack": wanted, "x": {"stack_trace": wanted.split("\n")}})
 

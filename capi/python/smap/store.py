@@ -96,8 +96,8 @@ class Store:
     it was opened until it makes room, or until `forget`, whatever becomes of its file. What a store knows by
     names, it knows of 10,000 scripts at most, so that its memory doesn't grow with what logs name.
 
-    What frames had lately, positions in sources, lines of these and names of functions, is kept in 96 MiB at
-    most besides.
+    What frames had lately, positions in sources, lines of these and names of functions, is kept in 96 MiB
+    at most besides.
 
     A finder's OSError and smap.Error make the map broken; all other exceptions come out of the call.
     All threads may use a store at once, but no finalizer and no signal handler, which may interrupt a call
@@ -410,11 +410,11 @@ class Store:
         lines in `code` and `context`; with `shape="bugsnag"` all is in `file`, `lineNumber`, `columnNumber`,
         `inProject` and `code`.
 
-        With `names`, `function`, or `method` in the other shapes, gets the name of the function, where that is
-        sure; a frame that has no such member, or an empty one, gets one. All else stays. So do, as a whole,
-        frames that have no such position (other types, values below 1 or above 2147483648), no map, no mapping
-        there, or a source without a URL. With `ignore_query`, a query and a fragment may follow the URL of a script. The longest that has a map
-        is taken.
+        With `names`, `function`, or `method` in the other shapes, gets the name of the function, where that
+        is sure; a frame that has no such member, or an empty one, gets it too. All else stays. So do, as a
+        whole, frames that have no such position (other types, values below 1 or above 2147483648), no map, no
+        mapping there, or a source without a URL. With `ignore_query`, a query and a fragment may follow the
+        URL of a script. The longest that has a map is taken.
         """
         if context < 0:
             raise ValueError("context is below 0")
