@@ -4,7 +4,7 @@
 const fs = require('node:fs');
 const path = require('node:path');
 const { debuglog } = require('node:util');
-const { Scripts, SmapError, scriptLink, resolveLink, inlineMap, fileUrl, filePath } = require('./index.js');
+const { SmapError, scriptLink, resolveLink, inlineMap, fileUrl, filePath } = require('./index.js');
 const inside = require('./inside.js');
 const native = require('./native.js');
 const { nodesMap } = require('./compiled.js');
@@ -186,7 +186,7 @@ function read(script) {
   const url = fileUrl(base);
   const { map, mayHaveWord } = inside.open(got.map, url ?? base, 'sourcesContent');
   const names = url === null ? map.sources : map.sources.map(pathNamed);
-  const scripts = areNamed && mayHaveWord ? new Scripts({ [SCRIPT]: map }) : null;
+  const scripts = areNamed && mayHaveWord ? inside.scriptsOf(SCRIPT, map) : null;
   return { map, names, scripts, told: new Map(), lengths: [], read: 0 };
 }
 
