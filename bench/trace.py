@@ -3,13 +3,15 @@
     python3 bench/trace.py crates/smap/out/smap
     python3 bench/trace.py crates/smap/out/smap --into docs/PERFORMANCE.md
     python3 bench/trace.py crates/smap/out/smap --before FOLDER
+    python3 bench/trace.py crates/smap/out/smap --names
     python3 bench/trace.py crates/smap/out/smap --once
 
 Prints three tables. The first is of a short log that names three scripts, by the number of maps in the folder;
 the second of a log of --megabytes; the third of logs that name many maps, by their number. The log is a file,
 or comes through a pipe. With --into the tables are put between the two lines of that file that hold `figures of
 trace.py`. With --before the shell scripts that were smap-trace earlier, those of the commit c31943b, are put
-into FOLDER and measured beside. Before anything is timed, each way has to write of a log what `smap translate`
+into FOLDER and measured beside. With --names another table is printed, of logs without and with that
+option; --into puts it where the lines hold `figures of names in logs`. Before anything is timed, each way has to write of a log what `smap translate`
 writes of it. Takes twice the megabytes of disk. Let nothing else run meanwhile.
 
 With --once all is small, and each run is made once, and has to keep within bounds: on the time of the
@@ -22,6 +24,8 @@ import io
 import json
 import os
 import random
+import re
+import shutil
 import signal
 import statistics
 import subprocess
@@ -44,6 +48,11 @@ START_SEGMENTS = 700
 MAPS_OF_LOG = 10
 # How many lines of a log are made; they come again until it is as long as it has to be.
 LINES = 200_000
+
+# A function of a source, the tokens of it that have mappings, and how many functions have 1 MB.
+FUNCTION = "function total{0}(items, rate) {{ return items.reduce(scale{0}, rate) * {0}; }}\n"
+NAME = re.compile(r"(?!function|return)[a-z]\w*")
+FUNCTIONS_OF_MB = 12_000
 
 # What a run may take with --once: so many times the seconds of `smap translate` and so many more; and so many
 # MB more than a start with one map, and for each map that is named.
@@ -79,6 +88,21 @@ def make_maps(folder, many, segments):
     for number in range(many):
         (folder / f"{number}.js.map").write_text(text.getvalue(), encoding="utf-8")
     return folder
+
+
+def map_of_functions(functions):
+    """A map of a source of so many functions, of which each is a line there and in the script."""
+    names, rows, last = {}, [], [0, 0, 0, 0]
+    lines = [FUNCTION.format(number) for number in range(functions)]
+    for line, text in enumerate(lines):
+        row = []
+        for token in NAME.finditer(text):
+            place = [0, line, token.start(), names.setdefault(token[0], len(names))]
+            row.append((2 if row else 0, *(now - before for now, before in zip(place, last))))
+            last = place
+        rows.append(",".join("".join(map(make_map.difference, one)) for one in row))
+    made = {"sources": ["a.js"], "sourcesContent": ["".join(lines)], "names": list(names)}
+    return json.dumps({"version": 3, **made, "mappings": ";".join(rows)})
 
 
 def log_lines(maps, lines, segments):
@@ -262,6 +286,23 @@ def memories(runner, temp, ways, sizes):
         yield named, [runner.median(way.words(folder), log, way.piped) for way in ways]
 
 
+def with_and_without_names(runner, temp, maps, functions, size):
+    """What a log takes whose frames are in such maps, without names of functions and with them; its MB."""
+    folder = temp / f"functions{maps}"
+    folder.mkdir()
+    for number in range(maps):
+        (folder / f"{number}.js.map").write_text(map_of_functions(functions))
+    draw = random.Random(maps)
+    lines = [
+        f"    at t ({URL}{line % maps}.js:{draw.randint(1, functions)}:{draw.randint(1, 14)})\n"
+        for line in range(max(maps, min(LINES, size // 38)))
+    ]
+    log = write_log(temp / "log", lines, size)
+    seen = [runner.median(["smap-trace", *words, f"{URL}={folder}/"], log) for words in ([], ["--names"])]
+    shutil.rmtree(folder)
+    return log.stat().st_size / 1e6, seen
+
+
 # ---- tables
 
 
@@ -313,6 +354,20 @@ def table_of_memory(runner, temp, ways, sizes):
         f"\nThe folder has {max(sizes.named):,} maps, each of {size / 1e3:,.0f} KB "
         f"with {sizes.segments:,} mappings and no contents.\n"
     )
+
+
+def tables_of_names(runner, temp, megabytes):
+    out = head_of(["a log of frames", "MB", "seconds", "with `--names`", "MB a second", "with `--names`"])
+
+    def row(what, maps, functions, size):
+        megabytes, seen = with_and_without_names(runner, temp, maps, functions, size)
+        speeds = [f"{megabytes / used.processors:,.1f}" for used in seen]
+        return row_of([what, f"{megabytes:,.1f}", *(f"{used.processors:.2f}" for used in seen), *speeds])
+
+    out += row(f"in {MAPS_OF_LOG} sources of 83 KB", MAPS_OF_LOG, FUNCTIONS_OF_MB // 12, megabytes * 1_000_000)
+    for maps in (1, 10, 100):
+        out += row(f"one in each of {maps} sources of 1 MB", maps, FUNCTIONS_OF_MB, 0)
+    return out
 
 
 # ---- with --once
@@ -403,6 +458,7 @@ def main():
     parser.add_argument("--once", action="store_true", help="all small, once, within bounds")
     parser.add_argument("--before", type=Path, metavar="FOLDER", help="where the earlier scripts are put")
     parser.add_argument("--into", help="a file to put the tables into")
+    parser.add_argument("--names", action="store_true", help="the table of names of functions alone")
     parser.add_argument("--megabytes", type=int, help="of the log of the second table, 1,000")
     parser.add_argument("--runs", type=int, default=5, help="how often each run is made")
     parser.add_argument("--maps", type=int, nargs="+", default=[1, 500, 2000], help="of the first table")
@@ -418,6 +474,11 @@ def main():
         if words.once:
             sizes = replace(ONCE, megabytes=words.megabytes or ONCE.megabytes)
             return check(Runner(1), temp, program, sizes)
+        if words.names:
+            text = tables_of_names(Runner(words.runs), temp, words.megabytes or 1000)
+            if words.into:
+                put_into(words.into, "figures of names in logs", text)
+            return 0
         sizes = Sizes(words.megabytes or 1000, words.runs, words.maps, words.named, words.segments)
         text = measure(Runner(sizes.runs), temp, program, ways_of(before), sizes)
     if words.into:

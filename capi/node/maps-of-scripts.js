@@ -4,7 +4,8 @@
 const fs = require('node:fs');
 const path = require('node:path');
 const { debuglog } = require('node:util');
-const { SourceMap, SmapError, scriptLink, resolveLink, inlineMap, fileUrl, filePath } = require('./index.js');
+const { SmapError, scriptLink, resolveLink, inlineMap, fileUrl, filePath } = require('./index.js');
+const inside = require('./inside.js');
 const native = require('./native.js');
 const { nodesMap } = require('./compiled.js');
 const { isOfPackage } = require('./packages.js');
@@ -12,8 +13,18 @@ const { isOfPackage } = require('./packages.js');
 const debug = debuglog('smap');
 const tellNone = (script, error) => debug('no map for %s: %s', script, error.message);
 
+// Whether frames get the names of functions, where the library is sure of them by the texts of sources.
+const areNamed = process.env.SMAP_NAMES !== '0';
+
+// The library is asked for them as for lines of a log: how these begin, and what their script is called.
+const AT = '    at ', SCRIPT = 'script.js';
+
+// For each map, of how many lines the answers are kept, and how many characters of sources are read for them
+// in all, which takes about ten seconds.
+const MOST_TOLD = 10_000, MOST_READ = 2 ** 28;
+
 let files = new Map();   // path: text, for what isn't read from the disk
-let maps = new Map();    // script: { map, names } or null
+let maps = new Map();    // script: what `read` gives, or null
 let fileHooks = { calls: [], only: false };
 let mapHooks = { calls: [], only: false };
 
@@ -173,8 +184,10 @@ function read(script) {
   if (!got || !got.map) return null;
   const base = whole(String(got.url ?? script));
   const url = fileUrl(base);
-  const map = new SourceMap(got.map, url ?? base);
-  return { map, names: url === null ? map.sources : map.sources.map(pathNamed) };
+  const { map, mayHaveWord } = inside.open(got.map, url ?? base, 'sourcesContent');
+  const names = url === null ? map.sources : map.sources.map(pathNamed);
+  const scripts = areNamed && mayHaveWord ? inside.scriptsOf(SCRIPT, map) : null;
+  return { map, names, scripts, told: new Map(), lengths: [], read: 0 };
 }
 
 // The map of a script, read once. One that is refused is none: a trace must not fail because of it.
@@ -203,6 +216,49 @@ function originalOf({ source, line, column }) {
   };
 }
 
+// Asks for lines that aren't known, together: the library reads the sources anew in each call.
+function ask(known, lines, sources) {
+  const asked = [...new Set(lines)].filter(line => !known.told.has(line) && !line.includes('\n'));
+  if (asked.length === 0 || known.read > MOST_READ) return;
+  for (const i of new Set(sources)) known.read += known.lengths[i] ??= known.map.content(i)?.length ?? 0;
+  if (known.told.size + asked.length > MOST_TOLD) known.told.clear();
+  const answers = known.scripts.translate(asked.join('\n'), { names: true }).split('\n');
+  asked.forEach((line, i) => known.told.set(line, answers[i]));
+}
+
+function nameIn(known, frames) {
+  const lines = frames.map(({ before, place, after }) =>
+    `${AT}${before}${SCRIPT}:${place.line}:${place.column}${after}`);
+  const originals = frames.map(({ place }) => known.map.lookup(place.line - 1, place.column - 1));
+  ask(known, lines, originals.map(({ sourceIndex }) => sourceIndex));
+  frames.forEach((frame, i) => {
+    const line = known.told.get(lines[i]) ?? '';
+    const { source, sourceLine, sourceColumn } = originals[i];
+    const place = `${source}:${sourceLine + 1}:${sourceColumn + 1}`;
+    const from = line.lastIndexOf(place);
+    if (from < 0) return;
+    frame.before = line.slice(AT.length, from);
+    frame.after = line.slice(from + place.length);
+  });
+}
+
+/**
+ * Puts the names of functions into what frames have before and behind their places: each a script, and a line
+ * and a column from 1, which has an original.
+ */
+function nameFrames(frames) {
+  const byMap = new Map();
+  for (const frame of frames) {
+    const known = maps.get(frame.place.script);
+    if (known?.scripts) byMap.set(known, [...byMap.get(known) ?? [], frame]);
+  }
+  try {
+    for (const [known, its] of byMap) nameIn(known, its);
+  } catch (error) {
+    debug('no names of functions: %s', error.message);
+  }
+}
+
 // The text of a source that its map doesn't have. What the hooks have under a script's own name is what was
 // compiled, and not its source.
 function textOf(source, script) {
@@ -225,5 +281,6 @@ function lineOf(source, line) {
 }
 
 module.exports = {
-  forget, hookFiles, hookMaps, unhook, putFile, retrieveSourceMap, originalOf, lineOf, debug,
+  forget, hookFiles, hookMaps, unhook, putFile, retrieveSourceMap, originalOf, nameFrames,
+  lineOf, debug,
 };

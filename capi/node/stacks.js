@@ -38,7 +38,9 @@ function placeOf(frame) {
     const column = frame.getColumnNumber();
     if (file.startsWith('node:') || line === null || column === null) return null;
     const at = maps.originalOf({ source: file, line, column: column - 1 });
-    return at && { from: `${file}:${line}:${column}`, to: `${at.source}:${at.line}:${at.column + 1}`, at };
+    if (!at) return null;
+    const from = `${file}:${line}:${column}`;
+    return { from, to: `${at.source}:${at.line}:${at.column + 1}`, at, script: file, line, column };
   }
   const origin = frame.isEval() && frame.getEvalOrigin();
   if (!origin) return null;
@@ -58,12 +60,28 @@ function safePlaceOf(frame) {
 
 const originalOf = frame => safePlaceOf(frame)?.at ?? null;
 
-// Only the place is replaced in the text that V8 makes.
-function textOf(frame) {
+// The text that V8 makes, before and behind the place, if that is replaced.
+function partsOf(frame) {
   const text = String(frame);
   const place = safePlaceOf(frame);
   const i = place ? text.lastIndexOf(place.from) : -1;
-  return i < 0 ? text : text.slice(0, i) + place.to + text.slice(i + place.from.length);
+  if (i < 0) return { before: text, place: null, after: '' };
+  return { before: text.slice(0, i), place, after: text.slice(i + place.from.length) };
+}
+
+// Only the place is replaced there, and the name of the function.
+function textsOf(frames) {
+  const all = frames.map(partsOf);
+  maps.nameFrames(all.filter(({ place }) => place?.at));
+  return all.map(({ before, place, after }) => before + (place ? place.to : '') + after);
+}
+
+// The name of a frame's function, whose place has an original.
+function nameOf(frame, place) {
+  const name = frame.getFunctionName();
+  const asked = { before: name ? `${name} (` : '', place, after: name ? ')' : '' };
+  maps.nameFrames([asked]);
+  return asked.before.slice(0, -' ('.length) || name;
 }
 
 function wrapCallSite(frame) {
@@ -73,8 +91,9 @@ function wrapCallSite(frame) {
   for (const name of Object.getOwnPropertyNames(Object.getPrototypeOf(frame))) {
     if (typeof frame[name] === 'function') own[name] = (...words) => frame[name](...words);
   }
-  own.toString = () => textOf(frame);
+  own.toString = () => textsOf([frame])[0];
   if (place.at) {
+    own.getFunctionName = () => nameOf(frame, place);
     own.getFileName = own.getScriptNameOrSourceURL = () => place.at.source;
     own.getLineNumber = () => place.at.line;
     own.getColumnNumber = () => place.at.column + 1;
@@ -104,7 +123,7 @@ function prepareStackTrace(error, frames) {
   if (isFresh) maps.forget();
   if (frames.length > 0) firsts.set(error, originalOf(frames[0]));
   if (earlier) return amended(earlier.call(this, error, frames), error, frames);
-  return [headOf(error), ...frames.map(textOf)].join('\n    at ');
+  return [headOf(error), ...textsOf(frames)].join('\n    at ');
 }
 
 // ---- beside another package that was here first, such as a transpiler's
@@ -142,7 +161,9 @@ function amended(text, error, frames) {
   const hasLineEach = lines.length - first === frames.length && lines.slice(first).every(isFrame);
   if (!hasLineEach) return head + withPlaces(lines.join('\n'), frames);
   // A place that it made for one frame may be that of another frame in the script.
-  return head + lines.map((line, i) => (i < first ? line : withPlaces(line, [frames[i - first]]))).join('\n');
+  const texts = textsOf(frames);
+  const told = (line, i) => (line === AT + frames[i] ? AT + texts[i] : withPlaces(line, [frames[i]]));
+  return head + [...lines.slice(0, first), ...lines.slice(first).map(told)].join('\n');
 }
 
 // A text with the places of frames replaced, one behind the other.

@@ -3,6 +3,7 @@
 complete -c smap-events -s h -l help -d 'Print help'
 complete -c smap-events -s V -l version -d 'Print the version'
 complete -c smap-events -l no-raw -d 'Do not keep stacks as they were'
+complete -c smap-events -l names -d 'Give frames the names of functions, where they are sure'
 complete -c smap-events -x -l context -d 'Show so many lines of the source around that of a frame'
 complete -c smap-events -n '__smap_events_has_url' -f -a '(__smap_events_maps)'
 

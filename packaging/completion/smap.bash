@@ -16,7 +16,7 @@ smap respell: --help
 smap scripts: --help
 smap translate: --hide-ignored --anywhere --ignore-query --names --help
 smap compose: --relative --thin --used --help
-smap-events: --no-raw --context --version --help
+smap-events: --no-raw --names --context --version --help
 smap-trace: --frames-only --anywhere --hide-ignored --skip-broken --strict --check-all --list --names --context --url-bytes --source-prefix --quiet --verbose --version --help
 smap-maps: --version --help
 smap-maps check: --base --json --url-bytes --version --help

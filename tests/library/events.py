@@ -3,11 +3,12 @@
 import itertools
 import json
 import resource
+import shutil
 import sys
 import unittest
 
 from events_case import BUGSNAG, ECS, EventsCase, LIBRARY, OTLP, PROGRAM, ROLLBAR, ROLLBAR_TRACE, SCRIPT
-from events_case import SENTRY, SOURCE, STACK, TOLD, copied
+from events_case import SENTRY, SOURCE, STACK, TOLD, TOP, copied
 
 sys.path.insert(0, str(PROGRAM.parent))
 from smap.noted import Worth  # noqa: E402
@@ -253,6 +254,52 @@ class ShapesTest(EventsCase):
             told = self.told(BUGSNAG, "--context", number)
             code = told["events"][0]["exceptions"][0]["stacktrace"][0]["code"]
             self.assertEqual(list(code.values()), [*before, "three", *behind])
+
+    def test_names(self):
+        """Of a build by hand, as tests/rows/smap-trace-names.rows has them: each line is a position."""
+        shutil.copy(TOP / "tests" / "rows" / "maps" / "functions" / "out.js.map", self.dist)
+        script, source = "https://s.example/out.js", "https://s.example/src/cart.ts"
+        none = object()
+        names = [
+            (1, 1, "t", "formatPrice"), (1, 1, "async*t", "formatPrice"), (1, 1, "\ud800", "formatPrice"),
+            (2, 1, "f.total", "Cart.total"), (4, 1, "new s", "new Account"), (8, 1, "async be", "async main"),
+            (5, 1, "get size [as size]", "get Cart.size [as size]"), (7, 1, "Object.render", "Object.render"),
+            # without a name
+            (9, 1, "?", "main"), (9, 1, "<anonymous>", "main"), (9, 1, "", "main"), (9, 1, None, "main"),
+            (9, 1, none, "main"),
+            # in a function without one, and where it isn't sure unless the log says it
+            (11, 1, "a", "a"), (11, 1, none, none), (14, 5, "a", "a"), (14, 5, "f.total", "Cart.total"),
+            # what no log could have, and what isn't translated
+            (1, 1, "t\n", "t\n"), (1, 1, 5, 5), (1, 1, ["t"], ["t"]), (99, 1, "t", "t"),
+        ]
+        shapes = [
+            ("filename", "lineno", "colno", "function", lambda frames: {"stacktrace": {"frames": frames}}),
+            ("filename", "lineno", "colno", "function", lambda frames: {"stacktrace": frames}),
+            ("filename", "lineno", "colno", "method", lambda frames: {"trace": {"frames": frames}}),
+            ("file", "lineNumber", "columnNumber", "method", lambda frames: {"stacktrace": frames}),
+        ]
+        for of_script, of_line, of_column, member, event in shapes:
+            sent = [{of_script: script, of_line: line, of_column: column} for line, column, _, _ in names]
+            for frame, (_, _, name, _) in zip(sent, names):
+                frame.update({} if name is none else {member: name})
+            # all together, and one by one
+            lines = [json.dumps(event(frames)).encode() for frames in [sent, *([frame] for frame in sent)]]
+
+            def frames_of(told):
+                for line in told:
+                    (stack,) = json.loads(line).values()
+                    yield from stack["frames"] if isinstance(stack, dict) else stack
+
+            told, said, status = self.events(*lines, options=["--names", "--no-raw"])
+            self.assertEqual(status, 0, said)
+            found = list(frames_of(told))
+            self.assertEqual([frame.get(member, none) for frame in found], [name for *_, name in names] * 2)
+            plain = list(frames_of(self.events(*lines, options=["--no-raw"])[0]))
+            self.assertEqual([{**one, member: 0} for one in found], [{**one, member: 0} for one in plain])
+        stack = f"    at f.total ({script}:2:1)\nt@{script}:1:1\n    at a ({script}:11:1)"
+        wanted = f"    at Cart.total ({source}:6:25)\nformatPrice@{source}:2:16\n    at a ({source}:14:20)"
+        told = self.told({"stack": stack, "x": {"stack_trace": stack.split("\n")}}, "--names", "--no-raw")
+        self.assertEqual(told, {"stack": wanted, "x": {"stack_trace": wanted.split("\n")}})
 
     def test_other_shapes_of_these_names_stay(self):
         for value in (None, 1, True, "", "x", [], [[]], {}, [{}], {"frames": 1}, {"frames": {}}, ["a", 1]):

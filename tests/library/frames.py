@@ -164,6 +164,21 @@ class FramesTest(unittest.TestCase):
         with self.assertRaisesRegex(ValueError, "no shape 'x', but sentry, rollbar, bugsnag"):
             self.store.frames([], shape="x")
 
+    def test_names_are_asked_for_together_and_once(self):
+        map_file = TESTS.parent / "rows" / "maps" / "functions" / "out.js.map"
+        store = smap.Store(lambda script: map_file.read_bytes())
+        sent = [frame(1, 1), frame(1, 8), frame(1, 11), frame(1, 1)]
+        with mock.patch.object(smap.Map, "translate", autospec=True, side_effect=smap.Map.translate) as asked:
+            for _ in range(2):
+                told = store.frames(sent, names=True)
+                names = ["formatPrice", "main", "f", "formatPrice"]
+                self.assertEqual([one["function"] for one in told], names)
+            self.assertEqual(asked.call_count, 1)
+            store.forget()
+            self.assertEqual(store.frames(sent, names=True), told)
+            self.assertEqual(asked.call_count, 2)
+        self.assertEqual({one["function"] for one in store.frames(sent)}, {"f"})
+
     def test_what_is_known_is_that_of_the_map_as_it_is_open(self):
         texts = [json.dumps({**MAP, "sourcesContent": ["one\ntwo\n" + word]}).encode() for word in ("x", "y")]
         store = smap.Store(lambda script: texts[0])

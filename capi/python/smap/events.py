@@ -183,9 +183,10 @@ Make = Callable[[List[str]], Optional[List[Part]]]
 class Stacks:
     """Translates the values of members."""
 
-    def __init__(self, store: Store, keep: bool, context: Optional[int]) -> None:
+    def __init__(self, store: Store, keep: bool, context: Optional[int], names: bool) -> None:
         self._store = store
         self._keep = keep
+        self._names = names
         self._context = CONTEXT if context is None else dict.fromkeys(CONTEXT, context)
         # stacks come again and again, and so do their frames and lines in other stacks
         self._known: Recent[Told] = Recent(MOST_KNOWN)
@@ -302,7 +303,8 @@ class Stacks:
         return self._text(value) if isinstance(value, str) else value
 
     def _frames(self, frames: List[Any], shape: str) -> List[Any]:
-        return self._store.frames(frames, self._context[shape], ignore_query=True, shape=shape)
+        context, names = self._context[shape], self._names
+        return self._store.frames(frames, context, ignore_query=True, shape=shape, names=names)
 
     def _sentry(self, stack: Dict[str, Any]) -> Dict[str, Any]:
         frames = stack.get("frames")
@@ -351,7 +353,8 @@ class Stacks:
 
     def _translate(self, text: str) -> str:
         # the last line is translated with the others only if it has an end
-        return self._store.translate((text + "\n").encode("utf-8"), ignore_query=True).decode("utf-8")[:-1]
+        log = (text + "\n").encode("utf-8")
+        return self._store.translate(log, ignore_query=True, names=self._names).decode("utf-8")[:-1]
 
     def _lines(self, new: List[str]) -> List[Part]:
         """What becomes of lines."""
@@ -440,9 +443,11 @@ def say(text: object) -> None:
 class Events:
     """Translates lines, and counts what becomes of them."""
 
-    def __init__(self, store: Store, keep: bool = True, context: Optional[int] = None) -> None:
+    def __init__(
+        self, store: Store, keep: bool = True, context: Optional[int] = None, names: bool = False
+    ) -> None:
         self._store = store
-        self._stacks, self._keep = Stacks(store, keep, context), keep
+        self._stacks, self._keep = Stacks(store, keep, context, names), keep
         # the header of an item, until the line behind it is read
         self._header = b""
         self._lines = self._translated = 0
@@ -560,6 +565,8 @@ def arguments(words: Optional[Sequence[str]]) -> argparse.Namespace:
     parser.add_argument("--no-raw", action="store_true", help="don't keep stacks as they were, in raw_..")
     lines = "lines of the source before and behind that of a frame: 5, or Bugsnag's 3, by default"
     parser.add_argument("--context", type=natural, metavar="N", help=lines)
+    named = "give frames the names of functions, where they are sure"
+    parser.add_argument("--names", action="store_true", help=named)
     parser.add_argument("-V", "--version", action="version", version=f"%(prog)s {__version__}")
     maps = "where maps are: each NAME.map in FOLDER, or below it, is that of URL/NAME; or URL=FILE"
     parser.add_argument("places", nargs="+", metavar="URL/=FOLDER/", help=maps)
@@ -612,7 +619,7 @@ def main(words: Optional[Sequence[str]] = None) -> int:
     if sys.stderr is None:  # it is closed: print and argparse would write among the events
         sys.stderr = io.StringIO()
     given = arguments(words)
-    events = Events(given.store, not given.no_raw, given.context)
+    events = Events(given.store, not given.no_raw, given.context, given.names)
     status = run(events, given.files)
     if status != 141:
         events.say_counts()

@@ -12,6 +12,7 @@ from typing import Any, Dict, List, Optional, Tuple
 from urllib.parse import urlsplit
 
 from .maps import Map
+from .named import Asked, names_of
 from .noted import Recent
 
 __all__ = ["SHAPES", "Known", "Originals", "code_point", "places_by_script", "translate_all"]
@@ -61,6 +62,10 @@ class Original:
     is_ignored: bool
     around: Optional[Around]
 
+    def place(self) -> str:
+        """The position, as logs have it."""
+        return f"{self.url}:{self.line}:{self.column}"
+
     def is_in_app(self, before: object) -> object:
         """Whether the source is the program's own, by what was said of the script."""
         return False if self.is_ignored else True if before is None else before
@@ -72,6 +77,7 @@ class Shape:
     script: Tuple[str, ...] = ("filename",)
     line = "lineno"
     column = "colno"
+    function = "function"
     # the members that show lines of the script, and are replaced or removed where a frame is translated
     shows: Tuple[str, ...] = ()
 
@@ -122,6 +128,7 @@ class Sentry(Shape):
 
 
 class Rollbar(Shape):
+    function = "method"
     shows = ("code", "context")
 
     def show(self, told: Dict[str, Any], number: int, around: Around) -> None:
@@ -133,6 +140,7 @@ class Bugsnag(Shape):
     script = ("file",)
     line = "lineNumber"
     column = "columnNumber"
+    function = "method"
     shows = ("code",)
 
     def name(self, told: Dict[str, Any], found: Original) -> None:
@@ -157,15 +165,24 @@ def places_by_script(frames: List[Any], shape: Shape) -> Dict[str, Dict[int, Pla
     return found
 
 
-def translate_all(frames: List[Any], places: Dict[int, Place], shape: Shape, originals: Originals) -> int:
-    """Replaces frames of one script in the list by those in the sources; returns how many."""
-    done = 0
+def translate_all(
+    frames: List[Any], places: Dict[int, Place], shape: Shape, originals: Originals, names: bool
+) -> int:
+    """Replaces frames of one script in the list by those in the sources; returns how many.
+
+    With `names` they get names of functions too.
+    """
+    done: Dict[int, Asked] = {}
     for number, (_, line, column) in places.items():
         found = originals.at(line, column)
         if found is not None:
-            frames[number] = shape.told(frames[number], found)
-            done += 1
-    return done
+            told = frames[number] = shape.told(frames[number], found)
+            done[number] = Asked(told.get(shape.function), line, column, found.place())
+    if names:
+        for number, name in zip(done, originals.names(list(done.values()))):
+            if name:
+                frames[number][shape.function] = name
+    return len(done)
 
 
 class Lines:
@@ -198,11 +215,12 @@ class Lines:
 
 
 class Known:
-    """What was found lately, of all maps: positions in sources, and the lines of these."""
+    """What was found lately, of all maps: positions in sources, their lines, and names of functions."""
 
     def __init__(self) -> None:
         self.positions: Recent[Optional[Original]] = Recent(MOST_KNOWN)
         self.lines: Recent[Optional[Lines]] = Recent(MOST_KNOWN)
+        self.names: Recent[str] = Recent(MOST_KNOWN)
 
 
 class Originals:
@@ -222,6 +240,10 @@ class Originals:
         """A position, which counts from 1, in its source; None where that isn't known, or has no URL."""
         key = self._mark, line, column, self._context
         return self._known.positions.find(key, lambda: self._found(line, column), size_of)
+
+    def names(self, asked: List[Asked]) -> List[str]:
+        """The names of functions that frames get, empty for those that get none."""
+        return names_of(self._map, self._mark, asked, self._known.names)
 
     def _found(self, line: int, column: int) -> Optional[Original]:
         found = self._map.find(line - 1, column - 1)

@@ -96,7 +96,8 @@ class Store:
     it was opened until it makes room, or until `forget`, whatever becomes of its file. What a store knows by
     names, it knows of 10,000 scripts at most, so that its memory doesn't grow with what logs name.
 
-    Positions in sources that frames had lately, and lines of sources, are kept in 64 MiB at most besides.
+    What frames had lately, positions in sources, lines of these and names of functions, is kept in 96 MiB
+    at most besides.
 
     A finder's OSError and smap.Error make the map broken; all other exceptions come out of the call.
     All threads may use a store at once, but no finalizer and no signal handler, which may interrupt a call
@@ -386,7 +387,13 @@ class Store:
         return found
 
     def frames(
-        self, frames: Iterable[Any], context: int = 5, *, ignore_query: bool = False, shape: str = "sentry"
+        self,
+        frames: Iterable[Any],
+        context: int = 5,
+        *,
+        ignore_query: bool = False,
+        shape: str = "sentry",
+        names: bool = False,
     ) -> List[Any]:
         """Frames as error reporters send them, in their sources: new dictionaries, in the same order.
 
@@ -403,10 +410,11 @@ class Store:
         lines in `code` and `context`; with `shape="bugsnag"` all is in `file`, `lineNumber`, `columnNumber`,
         `inProject` and `code`.
 
-        All else stays, `function` too. So do, as a whole, frames that have no such position (other types,
-        values below 1 or above 2147483648), no map, no mapping there, or a source without a URL.
-        With `ignore_query`, a query and a fragment may follow the URL of a script. The longest that has a map
-        is taken.
+        With `names`, `function`, or `method` in the other shapes, gets the name of the function, where that
+        is sure; a frame that has no such member, or an empty one, gets it too. All else stays. So do, as a
+        whole, frames that have no such position (other types, values below 1 or above 2147483648), no map, no
+        mapping there, or a source without a URL. With `ignore_query`, a query and a fragment may follow the
+        URL of a script. The longest that has a map is taken.
         """
         if context < 0:
             raise ValueError("context is below 0")
@@ -422,6 +430,6 @@ class Store:
                 continue
             with opened.map:
                 originals = Originals(opened.map, opened.mark, context, self._known)
-                done += translate_all(told, places, way, originals)
+                done += translate_all(told, places, way, originals, names)
         self._count(left + StoreCounts(lines=len(told), translated=done))
         return told
