@@ -1,8 +1,10 @@
 //! The commands that don't look at maps one after another.
+use crate::changing::{comment_task, scripts_asked};
 use crate::linting::lint_asked;
 use smap_command_line::MapsCommand;
 use smap_command_line::maps::MapsWords;
 use smap_lint_run::lint;
+use smap_script_run::{ScriptTask, edit_scripts};
 use smap_system::{Disk, Host, Stop, Watched};
 use std::io::Write;
 
@@ -47,28 +49,31 @@ fn compose<E: Eprint + AllocGlobal, D: Disk, W: Write>(
 /// Sets or removes the comments of scripts.
 fn comment<E: Eprint + AllocGlobal, D: Disk, W: Write>(
     host: &Host<'_, E, D>,
-    _asked: &MapsWords<'_>,
-    _writer: &mut Watched<W>,
+    asked: &MapsWords<'_>,
+    writer: &mut Watched<W>,
 ) -> Result<u8, Stop> {
-    Err(host.fail(2, "not yet"))
+    let asked = scripts_asked(host.alloc(), asked, comment_task(asked))?;
+    edit_scripts(host, &asked, writer)
 }
 
 /// Puts maps into their scripts.
 fn inline<E: Eprint + AllocGlobal, D: Disk, W: Write>(
     host: &Host<'_, E, D>,
-    _asked: &MapsWords<'_>,
-    _writer: &mut Watched<W>,
+    asked: &MapsWords<'_>,
+    writer: &mut Watched<W>,
 ) -> Result<u8, Stop> {
-    Err(host.fail(2, "not yet"))
+    let asked = scripts_asked(host.alloc(), asked, ScriptTask::Inline)?;
+    edit_scripts(host, &asked, writer)
 }
 
 /// Puts maps within scripts into files.
 fn outline<E: Eprint + AllocGlobal, D: Disk, W: Write>(
     host: &Host<'_, E, D>,
-    _asked: &MapsWords<'_>,
-    _writer: &mut Watched<W>,
+    asked: &MapsWords<'_>,
+    writer: &mut Watched<W>,
 ) -> Result<u8, Stop> {
-    Err(host.fail(2, "not yet"))
+    let asked = scripts_asked(host.alloc(), asked, ScriptTask::Outline)?;
+    edit_scripts(host, &asked, writer)
 }
 
 /// Renames the sources of maps.
