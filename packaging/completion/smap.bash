@@ -30,9 +30,6 @@ smap-maps compose: --write --diff --json --thin --used --url-bytes --version --h
 smap-maps comment: --write --set --remove --url-bytes --version --help
 smap-maps inline: --write --url-bytes --version --help
 smap-maps outline: --write --url-bytes --version --help
-smap-maps rename: --write --source-prefix --strip-common --url-bytes --version --help
-smap-maps contents: --write --remove --add --only --except --url-bytes --version --help
-smap-maps debug-id: --write --url-bytes --version --help
 smap-view: --base --url-bytes --compare --sizes --budget --version --help
 '
 
@@ -49,9 +46,6 @@ smap-maps --format: text gnu github sarif junit json markdown
 smap-maps --rule:
 smap-maps --min-mapped:
 smap-maps --set:
-smap-maps --only:
-smap-maps --except:
-smap-maps --source-prefix:
 smap-maps -o: FILE
 smap-maps --output: FILE
 smap-maps --url-bytes:

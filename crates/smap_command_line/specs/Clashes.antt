@@ -8,10 +8,10 @@ use Rattle.clap.specs.Words.{Row, first_of}
 use Rattle.smap_command_line.specs.Lookups.{is_set}
 use Rattle.smap_command_line.specs.Rows.{OptionRow, is_command_of, is_flag}
 use Rattle.smap_command_line.specs.declared.maps.clashes.Clash.{Clash}
-use Rattle.smap_command_line.specs.declared.maps.clashes.Clash.TheVariants.{AddRemove, DiffFormat, DropAlone}
+use Rattle.smap_command_line.specs.declared.maps.clashes.Clash.TheVariants.{DiffFormat, DropAlone}
 use Rattle.smap_command_line.specs.declared.maps.clashes.Clash.TheVariants.{JsonDiff, LintFormat, NoComment}
-use Rattle.smap_command_line.specs.declared.maps.clashes.Clash.TheVariants.{NoContents, NoOutput, NoRenaming}
-use Rattle.smap_command_line.specs.declared.maps.clashes.Clash.TheVariants.{PrefixCommon, RelativeAbsolute}
+use Rattle.smap_command_line.specs.declared.maps.clashes.Clash.TheVariants.{NoOutput}
+use Rattle.smap_command_line.specs.declared.maps.clashes.Clash.TheVariants.{RelativeAbsolute}
 use Rattle.smap_command_line.specs.declared.maps.clashes.Clash.TheVariants.{SetRemove, WriteDiff}
 use Rattle.smap_command_line.specs.declared.rows.MapsCommand.{MapsCommand}
 use Rattle.smap_command_line.specs.declared.rows.MapsCommand.TheVariants as command
@@ -41,10 +41,7 @@ excluded_flags rows =
 -- ways to change scripts and maps that exclude each other
 abbrev pub excluded_ways : List Row → Option Clash
 excluded_ways rows =
-    if has_value (codes "set") rows && is_set (codes "remove") rows then Some SetRemove else
-    (if is_set (codes "add") rows && is_set (codes "remove") rows then Some AddRemove else
-    (if has_value (codes "source-prefix") rows && is_set (codes "strip-common") rows
-    then Some PrefixCommon else None))
+    if has_value (codes "set") rows && is_set (codes "remove") rows then Some SetRemove else None
 
 -- the forms of `--format` that a command writes
 abbrev pub writes : MapsCommand → List ℕ → Bool
@@ -63,10 +60,6 @@ unless test why = if test then None else Some why
 abbrev pub lacking : List Row → MapsCommand → Option Clash
 lacking rows command.Comment =
     unless (has_value (codes "set") rows || is_set (codes "remove") rows) NoComment
-lacking rows command.Contents =
-    unless (is_set (codes "add") rows || is_set (codes "remove") rows) NoContents
-lacking rows command.Rename =
-    unless (has_value (codes "source-prefix") rows || is_set (codes "strip-common") rows) NoRenaming
 lacking rows command.Extract = unless (has_value (codes "output") rows) NoOutput
 lacking rows command.Lint = unless (writes_form rows command.Lint) LintFormat
 lacking rows command.Diff = unless (writes_form rows command.Diff) DiffFormat

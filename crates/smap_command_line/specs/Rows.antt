@@ -61,6 +61,3 @@ is_command_of c command.Compose = c.compose
 is_command_of c command.Comment = c.comment
 is_command_of c command.Inline = c.inline
 is_command_of c command.Outline = c.outline
-is_command_of c command.Rename = c.rename
-is_command_of c command.Contents = c.contents
-is_command_of c command.DebugId = c.debug_id

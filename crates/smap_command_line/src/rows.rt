@@ -17,9 +17,6 @@ pub enum MapsCommand {
     Comment,
     Inline,
     Outline,
-    Rename,
-    Contents,
-    DebugId,
 }
 
 /// Commands of `smap-maps`.
@@ -36,9 +33,6 @@ pub struct Commands {
     pub comment: bool,
     pub inline: bool,
     pub outline: bool,
-    pub rename: bool,
-    pub contents: bool,
-    pub debug_id: bool,
 }
 
 /// What the value of an option has to be.
@@ -115,9 +109,6 @@ pub(crate) const NO_COMMANDS: Commands = Commands {
     comment: false,
     inline: false,
     outline: false,
-    rename: false,
-    contents: false,
-    debug_id: false,
 };
 
 /// All commands.
@@ -133,9 +124,6 @@ pub(crate) const ALL_COMMANDS: Commands = Commands {
     comment: true,
     inline: true,
     outline: true,
-    rename: true,
-    contents: true,
-    debug_id: true,
 };
 
 /// What most flags have in common.
@@ -187,9 +175,6 @@ impl Commands {
             MapsCommand::Comment => self.comment,
             MapsCommand::Inline => self.inline,
             MapsCommand::Outline => self.outline,
-            MapsCommand::Rename => self.rename,
-            MapsCommand::Contents => self.contents,
-            MapsCommand::DebugId => self.debug_id,
         }
     }
 }

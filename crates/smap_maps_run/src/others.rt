@@ -76,33 +76,6 @@ fn outline<E: Eprint + AllocGlobal, D: Disk, W: Write>(
     edit_scripts(host, &asked, writer)
 }
 
-/// Renames the sources of maps.
-fn rename<E: Eprint + AllocGlobal, D: Disk, W: Write>(
-    host: &Host<'_, E, D>,
-    _asked: &MapsWords<'_>,
-    _writer: &mut Watched<W>,
-) -> Result<u8, Stop> {
-    Err(host.fail(2, "not yet"))
-}
-
-/// Adds or removes the contents of sources.
-fn contents<E: Eprint + AllocGlobal, D: Disk, W: Write>(
-    host: &Host<'_, E, D>,
-    _asked: &MapsWords<'_>,
-    _writer: &mut Watched<W>,
-) -> Result<u8, Stop> {
-    Err(host.fail(2, "not yet"))
-}
-
-/// Gives scripts and their maps the same debug ID.
-fn debug_id<E: Eprint + AllocGlobal, D: Disk, W: Write>(
-    host: &Host<'_, E, D>,
-    _asked: &MapsWords<'_>,
-    _writer: &mut Watched<W>,
-) -> Result<u8, Stop> {
-    Err(host.fail(2, "not yet"))
-}
-
 /// Does what a command says that doesn't look at maps one after another. Answers the status of a run that
 /// came to its end.
 pub(crate) fn do_other<E: Eprint + AllocGlobal, D: Disk, W: Write>(
@@ -117,9 +90,6 @@ pub(crate) fn do_other<E: Eprint + AllocGlobal, D: Disk, W: Write>(
         MapsCommand::Comment => comment(host, asked, writer),
         MapsCommand::Inline => inline(host, asked, writer),
         MapsCommand::Outline => outline(host, asked, writer),
-        MapsCommand::Rename => rename(host, asked, writer),
-        MapsCommand::Contents => contents(host, asked, writer),
-        MapsCommand::DebugId => debug_id(host, asked, writer),
         _ => lint_build(host, asked, writer),
     }
 }

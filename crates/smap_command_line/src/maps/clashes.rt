@@ -21,16 +21,8 @@ pub enum Clash {
     DropAlone,
     /// `--set` and `--remove` exclude each other.
     SetRemove,
-    /// `--add` and `--remove` exclude each other.
-    AddRemove,
-    /// `--source-prefix` and `--strip-common` exclude each other.
-    PrefixCommon,
     /// `comment` has neither `--set` nor `--remove`.
     NoComment,
-    /// `contents` has neither `--add` nor `--remove`.
-    NoContents,
-    /// `rename` has neither `--source-prefix` nor `--strip-common`.
-    NoRenaming,
     /// `extract` has no `--output`.
     NoOutput,
     /// `lint` has a format of `diff` alone.
@@ -104,10 +96,6 @@ fn excluded_ways(options: &Options<'_>) -> Option<Clash>
 {
     if has_value(options, "set") && options.has("remove") {
         Some(Clash::SetRemove)
-    } else if options.has("add") && options.has("remove") {
-        Some(Clash::AddRemove)
-    } else if has_value(options, "source-prefix") && options.has("strip-common") {
-        Some(Clash::PrefixCommon)
     } else {
         None
     }
@@ -149,14 +137,6 @@ fn lacking(options: &Options<'_>, command: MapsCommand) -> Option<Clash>
         MapsCommand::Comment => {
             let is_said = has_value(options, "set") || options.has("remove");
             unless(is_said, Clash::NoComment)
-        }
-        MapsCommand::Contents => {
-            let is_said = options.has("add") || options.has("remove");
-            unless(is_said, Clash::NoContents)
-        }
-        MapsCommand::Rename => {
-            let is_said = has_value(options, "source-prefix") || options.has("strip-common");
-            unless(is_said, Clash::NoRenaming)
         }
         MapsCommand::Extract => unless(has_value(options, "output"), Clash::NoOutput),
         MapsCommand::Lint => unless(writes_form(options, command), Clash::LintFormat),

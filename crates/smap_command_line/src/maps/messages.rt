@@ -19,9 +19,6 @@ fn command_text(command: MapsCommand) -> &'static str {
         MapsCommand::Comment => "comment",
         MapsCommand::Inline => "inline",
         MapsCommand::Outline => "outline",
-        MapsCommand::Rename => "rename",
-        MapsCommand::Contents => "contents",
-        MapsCommand::DebugId => "debug-id",
     }
 }
 
@@ -32,11 +29,7 @@ fn clash_text(clash: Clash) -> &'static str {
         Clash::JsonDiff => "--json and --diff at once",
         Clash::DropAlone => "--drop needs --write",
         Clash::SetRemove => "--set and --remove at once",
-        Clash::AddRemove => "--add and --remove at once",
-        Clash::PrefixCommon => "--source-prefix and --strip-common at once",
         Clash::NoComment => "comment needs --set or --remove",
-        Clash::NoContents => "contents needs --add or --remove",
-        Clash::NoRenaming => "rename needs --source-prefix or --strip-common",
         Clash::NoOutput => "extract needs --output",
         Clash::LintFormat => "lint has no format markdown",
         Clash::DiffFormat => "diff has the formats text, json and markdown",

@@ -4,7 +4,7 @@ use crate::rows::{
 };
 
 /// The options, in the order in which the help lists them and they are looked at.
-pub const OPTIONS: [OptionRow; 21] = [
+pub const OPTIONS: [OptionRow; 16] = [
     OptionOf {
         name: "base",
         value: Value::Text,
@@ -51,9 +51,6 @@ pub const OPTIONS: [OptionRow; 21] = [
             comment: true,
             inline: true,
             outline: true,
-            rename: true,
-            contents: true,
-            debug_id: true,
             ..NO_COMMANDS
         },
         help: "Rewrite the files that would change, unless a map would lose a member",
@@ -158,65 +155,9 @@ pub const OPTIONS: [OptionRow; 21] = [
         name: "remove",
         commands: Commands {
             comment: true,
-            contents: true,
             ..NO_COMMANDS
         },
-        help: "Remove the comments, or the contents of sources",
-        ..FLAG
-    },
-    OptionOf {
-        name: "add",
-        commands: Commands {
-            contents: true,
-            ..NO_COMMANDS
-        },
-        help: "Add contents of sources, from the files that the sources name",
-        ..FLAG
-    },
-    OptionOf {
-        name: "only",
-        value: Value::Text,
-        value_name: "PATTERN",
-        repeats: true,
-        commands: Commands {
-            contents: true,
-            ..NO_COMMANDS
-        },
-        help: "Leave alone sources that fit no PATTERN",
-        ..FLAG
-    },
-    OptionOf {
-        name: "except",
-        value: Value::Text,
-        value_name: "PATTERN",
-        repeats: true,
-        commands: Commands {
-            contents: true,
-            ..NO_COMMANDS
-        },
-        help: "Leave alone sources that fit a PATTERN",
-        ..FLAG
-    },
-    OptionOf {
-        name: "source-prefix",
-        value: Value::Pair,
-        value_name: "FROM=TO",
-        expected: "FROM=TO",
-        repeats: true,
-        commands: Commands {
-            rename: true,
-            ..NO_COMMANDS
-        },
-        help: "Write TO for FROM at the start of a source's URL. Of several the first that fits counts",
-        ..FLAG
-    },
-    OptionOf {
-        name: "strip-common",
-        commands: Commands {
-            rename: true,
-            ..NO_COMMANDS
-        },
-        help: "Drop the folders that all sources of a map have in common",
+        help: "Remove the comments of scripts that name their maps",
         ..FLAG
     },
     OptionOf {

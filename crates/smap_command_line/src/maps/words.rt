@@ -140,9 +140,6 @@ fn command_in(name: &str) -> Option<MapsCommand>
         "comment" => Some(MapsCommand::Comment),
         "inline" => Some(MapsCommand::Inline),
         "outline" => Some(MapsCommand::Outline),
-        "rename" => Some(MapsCommand::Rename),
-        "contents" => Some(MapsCommand::Contents),
-        "debug-id" => Some(MapsCommand::DebugId),
         _ => None,
     }
 }
