@@ -11,8 +11,6 @@ pub enum MapsCommand {
     Flatten,
     Lint,
     Repair,
-    Extract,
-    Diff,
     Compose,
     Comment,
     Inline,
@@ -27,8 +25,6 @@ pub struct Commands {
     pub flatten: bool,
     pub lint: bool,
     pub repair: bool,
-    pub extract: bool,
-    pub diff: bool,
     pub compose: bool,
     pub comment: bool,
     pub inline: bool,
@@ -56,10 +52,8 @@ pub enum Value {
     Level,
 }
 
-/// The forms of the findings of `smap-maps lint`, and behind them that of `diff` which `lint` doesn't have.
-pub const FORMATS: [&str; 7] = [
-    "text", "gnu", "github", "sarif", "junit", "json", "markdown",
-];
+/// The forms of the findings of `smap-maps lint`.
+pub const FORMATS: [&str; 6] = ["text", "gnu", "github", "sarif", "junit", "json"];
 
 /// How much a rule of `smap-maps lint` may count.
 pub const LEVELS: [&str; 4] = ["off", "note", "warning", "error"];
@@ -103,8 +97,6 @@ pub(crate) const NO_COMMANDS: Commands = Commands {
     flatten: false,
     lint: false,
     repair: false,
-    extract: false,
-    diff: false,
     compose: false,
     comment: false,
     inline: false,
@@ -118,8 +110,6 @@ pub(crate) const ALL_COMMANDS: Commands = Commands {
     flatten: true,
     lint: true,
     repair: true,
-    extract: true,
-    diff: true,
     compose: true,
     comment: true,
     inline: true,
@@ -169,8 +159,6 @@ impl Commands {
             MapsCommand::Flatten => self.flatten,
             MapsCommand::Lint => self.lint,
             MapsCommand::Repair => self.repair,
-            MapsCommand::Extract => self.extract,
-            MapsCommand::Diff => self.diff,
             MapsCommand::Compose => self.compose,
             MapsCommand::Comment => self.comment,
             MapsCommand::Inline => self.inline,

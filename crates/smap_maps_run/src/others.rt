@@ -19,24 +19,6 @@ fn lint_build<E: Eprint + AllocGlobal, D: Disk, W: Write>(
     Ok(0)
 }
 
-/// Extracts the sources of maps.
-fn extract<E: Eprint + AllocGlobal, D: Disk, W: Write>(
-    host: &Host<'_, E, D>,
-    _asked: &MapsWords<'_>,
-    _writer: &mut Watched<W>,
-) -> Result<u8, Stop> {
-    Err(host.fail(2, "not yet"))
-}
-
-/// Says what differs between two maps.
-fn diff<E: Eprint + AllocGlobal, D: Disk, W: Write>(
-    host: &Host<'_, E, D>,
-    _asked: &MapsWords<'_>,
-    _writer: &mut Watched<W>,
-) -> Result<u8, Stop> {
-    Err(host.fail(2, "not yet"))
-}
-
 /// Composes the maps of folders.
 fn compose<E: Eprint + AllocGlobal, D: Disk, W: Write>(
     host: &Host<'_, E, D>,
@@ -84,8 +66,6 @@ pub(crate) fn do_other<E: Eprint + AllocGlobal, D: Disk, W: Write>(
     writer: &mut Watched<W>,
 ) -> Result<u8, Stop> {
     match asked.command {
-        MapsCommand::Extract => extract(host, asked, writer),
-        MapsCommand::Diff => diff(host, asked, writer),
         MapsCommand::Compose => compose(host, asked, writer),
         MapsCommand::Comment => comment(host, asked, writer),
         MapsCommand::Inline => inline(host, asked, writer),

@@ -23,12 +23,6 @@ pub enum Clash {
     SetRemove,
     /// `comment` has neither `--set` nor `--remove`.
     NoComment,
-    /// `extract` has no `--output`.
-    NoOutput,
-    /// `lint` has a format of `diff` alone.
-    LintFormat,
-    /// `diff` has a format of `lint` alone.
-    DiffFormat,
 }
 
 /// Whether an option is given.
@@ -101,27 +95,6 @@ fn excluded_ways(options: &Options<'_>) -> Option<Clash>
     }
 }
 
-/// Whether a command writes this form.
-fn writes(command: MapsCommand, format: &str) -> bool
-    ensures { result ≡ spec.writes command format.now }
-{
-    match command {
-        MapsCommand::Lint => format != "markdown",
-        MapsCommand::Diff => format == "text" || format == "json" || format == "markdown",
-        _ => true,
-    }
-}
-
-/// Whether no form is asked for that the command doesn't write.
-fn writes_form(options: &Options<'_>, command: MapsCommand) -> bool
-    ensures { result ≡ spec.writes_form (rows_in options.now) command }
-{
-    match options.text("format") {
-        Some(format) => writes(command, format),
-        None => true,
-    }
-}
-
 /// This, unless the test holds.
 fn unless(test: bool, clash: Clash) -> Option<Clash>
     ensures { result ≡ spec.unless test clash }
@@ -138,9 +111,6 @@ fn lacking(options: &Options<'_>, command: MapsCommand) -> Option<Clash>
             let is_said = has_value(options, "set") || options.has("remove");
             unless(is_said, Clash::NoComment)
         }
-        MapsCommand::Extract => unless(has_value(options, "output"), Clash::NoOutput),
-        MapsCommand::Lint => unless(writes_form(options, command), Clash::LintFormat),
-        MapsCommand::Diff => unless(writes_form(options, command), Clash::DiffFormat),
         _ => None,
     }
 }

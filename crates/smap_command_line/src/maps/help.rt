@@ -7,8 +7,6 @@ Usage: smap-maps check [--base URL] [--json] PATH...
        smap-maps flatten [--base URL] [--json] [--write [--drop] | --diff] PATH...
        smap-maps lint [--format FORMAT] [--rule NAME=LEVEL]... [--min-mapped N] FOLDER...
        smap-maps repair [--base URL] [--write] PATH...
-       smap-maps extract PATH... -o DIR
-       smap-maps diff [--format FORMAT] OLD NEW
        smap-maps compose [--thin] [--used] [--json] [--write | --diff] FOLDER...
        smap-maps comment (--set URL | --remove) [--write] SCRIPT...
        smap-maps inline|outline [--write] SCRIPT...
@@ -20,8 +18,6 @@ Works on source maps: files, and each *.map in folders and below them; some comm
   flatten     Name each map that isn't a flat map as smap writes it
   lint        Say why maps don't work: of each script and each map of a build, what is wrong
   repair      Name each refused map that a few bytes void, with what would mend it
-  extract     Write the sources that maps hold to a folder
-  diff        Say what differs between two maps
   compose     Join each map of a folder with the maps of its sources
   comment     Set or remove the comment by which a script names its map
   inline      Put the map of a script into its comment
@@ -37,8 +33,7 @@ Works on source maps: files, and each *.map in folders and below them; some comm
   --diff          Show which members would change (tidy, flatten, compose)
   --json          Write a line of JSON for each map (check, tidy, flatten, compose)
   --format FORMAT
-                  Write findings as text, gnu, github, sarif, junit or json; differences as text, json or
-                  markdown (lint, diff)
+                  Write findings as text, gnu, github, sarif, junit or json (lint)
   --rule NAME=LEVEL
                   Set how much a rule counts: off, note, warning or error (lint)
   --min-mapped N  The least part of a script, in percent, that has to be mapped (lint)
@@ -46,8 +41,6 @@ Works on source maps: files, and each *.map in folders and below them; some comm
   --remove        Remove the comments of scripts that name their maps (comment)
   --thin          Leave out mappings that change no position's original (compose)
   --used          Leave out sources that no mapping has (compose)
-  -o, --output DIR
-                  Write the files of sources into DIR (extract)
   --url-bytes N   Refuse a map if the URLs of its sources take more than N bytes (default 67108864)
   -V, --version   Print the version
   -h, --help      Print help

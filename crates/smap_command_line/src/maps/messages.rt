@@ -13,8 +13,6 @@ fn command_text(command: MapsCommand) -> &'static str {
         MapsCommand::Flatten => "flatten",
         MapsCommand::Lint => "lint",
         MapsCommand::Repair => "repair",
-        MapsCommand::Extract => "extract",
-        MapsCommand::Diff => "diff",
         MapsCommand::Compose => "compose",
         MapsCommand::Comment => "comment",
         MapsCommand::Inline => "inline",
@@ -30,9 +28,6 @@ fn clash_text(clash: Clash) -> &'static str {
         Clash::DropAlone => "--drop needs --write",
         Clash::SetRemove => "--set and --remove at once",
         Clash::NoComment => "comment needs --set or --remove",
-        Clash::NoOutput => "extract needs --output",
-        Clash::LintFormat => "lint has no format markdown",
-        Clash::DiffFormat => "diff has the formats text, json and markdown",
     }
 }
 
@@ -54,7 +49,6 @@ pub fn message(alloc: Global, fault: &WordFault<'_>) -> Result<String, AllocErro
             format!(in alloc; "{command} has no --{name}")
         }
         WordFault::Clashing(clash) => String::from_str(alloc, clash_text(*clash)),
-        WordFault::NoPath(MapsCommand::Diff) => String::from_str(alloc, "diff needs two maps"),
         WordFault::NoPath(command) => {
             let command = command_text(*command);
             format!(in alloc; "{command} needs a file or a folder")

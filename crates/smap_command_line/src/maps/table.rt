@@ -4,7 +4,7 @@ use crate::rows::{
 };
 
 /// The options, in the order in which the help lists them and they are looked at.
-pub const OPTIONS: [OptionRow; 16] = [
+pub const OPTIONS: [OptionRow; 15] = [
     OptionOf {
         name: "base",
         value: Value::Text,
@@ -105,14 +105,12 @@ pub const OPTIONS: [OptionRow; 16] = [
         name: "format",
         value: Value::Format,
         value_name: "FORMAT",
-        expected: "text, gnu, github, sarif, junit, json or markdown",
+        expected: "text, gnu, github, sarif, junit or json",
         commands: Commands {
             lint: true,
-            diff: true,
             ..NO_COMMANDS
         },
-        help: "Write findings as text, gnu, github, sarif, junit or json; differences as text, json or \
-               markdown",
+        help: "Write findings as text, gnu, github, sarif, junit or json",
         ..FLAG
     },
     OptionOf {
@@ -176,19 +174,6 @@ pub const OPTIONS: [OptionRow; 16] = [
             ..NO_COMMANDS
         },
         help: "Leave out sources that no mapping has",
-        ..FLAG
-    },
-    OptionOf {
-        name: "output",
-        short: Some('o'),
-        value: Value::File,
-        value_name: "DIR",
-        expected: "the name of a folder",
-        commands: Commands {
-            extract: true,
-            ..NO_COMMANDS
-        },
-        help: "Write the files of sources into DIR",
         ..FLAG
     },
     OptionOf {
