@@ -24,7 +24,6 @@ smap-maps tidy: --base --absolute --relative --write --drop --diff --json --url-
 smap-maps flatten: --base --write --drop --diff --json --url-bytes --version --help
 smap-maps lint: --format --rule --min-mapped --url-bytes --version --help
 smap-maps repair: --base --write --url-bytes --version --help
-smap-maps compose: --write --diff --json --thin --used --url-bytes --version --help
 smap-maps comment: --write --set --remove --url-bytes --version --help
 smap-maps inline: --write --url-bytes --version --help
 smap-maps outline: --write --url-bytes --version --help

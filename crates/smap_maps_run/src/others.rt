@@ -19,15 +19,6 @@ fn lint_build<E: Eprint + AllocGlobal, D: Disk, W: Write>(
     Ok(0)
 }
 
-/// Composes the maps of folders.
-fn compose<E: Eprint + AllocGlobal, D: Disk, W: Write>(
-    host: &Host<'_, E, D>,
-    _asked: &MapsWords<'_>,
-    _writer: &mut Watched<W>,
-) -> Result<u8, Stop> {
-    Err(host.fail(2, "not yet"))
-}
-
 /// Sets or removes the comments of scripts.
 fn comment<E: Eprint + AllocGlobal, D: Disk, W: Write>(
     host: &Host<'_, E, D>,
@@ -66,7 +57,6 @@ pub(crate) fn do_other<E: Eprint + AllocGlobal, D: Disk, W: Write>(
     writer: &mut Watched<W>,
 ) -> Result<u8, Stop> {
     match asked.command {
-        MapsCommand::Compose => compose(host, asked, writer),
         MapsCommand::Comment => comment(host, asked, writer),
         MapsCommand::Inline => inline(host, asked, writer),
         MapsCommand::Outline => outline(host, asked, writer),

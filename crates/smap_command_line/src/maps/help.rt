@@ -7,7 +7,6 @@ Usage: smap-maps check [--base URL] [--json] PATH...
        smap-maps flatten [--base URL] [--json] [--write [--drop] | --diff] PATH...
        smap-maps lint [--format FORMAT] [--rule NAME=LEVEL]... [--min-mapped N] FOLDER...
        smap-maps repair [--base URL] [--write] PATH...
-       smap-maps compose [--thin] [--used] [--json] [--write | --diff] FOLDER...
        smap-maps comment (--set URL | --remove) [--write] SCRIPT...
        smap-maps inline|outline [--write] SCRIPT...
 
@@ -18,7 +17,6 @@ Works on source maps: files, and each *.map in folders and below them; some comm
   flatten     Name each map that isn't a flat map as smap writes it
   lint        Say why maps don't work: of each script and each map of a build, what is wrong
   repair      Name each refused map that a few bytes void, with what would mend it
-  compose     Join each map of a folder with the maps of its sources
   comment     Set or remove the comment by which a script names its map
   inline      Put the map of a script into its comment
   outline     Put the map within a script into a file next to it
@@ -28,10 +26,10 @@ Works on source maps: files, and each *.map in folders and below them; some comm
   --absolute      Write source URLs as they are (tidy)
   --relative      Write source URLs relative to the map's where that round-trips, which is the default (tidy)
   --write         Rewrite the files that would change, unless a map would lose a member (tidy, flatten,
-                  repair, compose, comment, inline, outline)
+                  repair, comment, inline, outline)
   --drop          Rewrite those too that lose a member, such as debugId, naming each (tidy, flatten)
-  --diff          Show which members would change (tidy, flatten, compose)
-  --json          Write a line of JSON for each map (check, tidy, flatten, compose)
+  --diff          Show which members would change (tidy, flatten)
+  --json          Write a line of JSON for each map (check, tidy, flatten)
   --format FORMAT
                   Write findings as text, gnu, github, sarif, junit or json (lint)
   --rule NAME=LEVEL
@@ -39,8 +37,6 @@ Works on source maps: files, and each *.map in folders and below them; some comm
   --min-mapped N  The least part of a script, in percent, that has to be mapped (lint)
   --set URL       Set the comment of each script that names its map to URL (comment)
   --remove        Remove the comments of scripts that name their maps (comment)
-  --thin          Leave out mappings that change no position's original (compose)
-  --used          Leave out sources that no mapping has (compose)
   --url-bytes N   Refuse a map if the URLs of its sources take more than N bytes (default 67108864)
   -V, --version   Print the version
   -h, --help      Print help

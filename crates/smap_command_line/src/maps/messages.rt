@@ -13,7 +13,6 @@ fn command_text(command: MapsCommand) -> &'static str {
         MapsCommand::Flatten => "flatten",
         MapsCommand::Lint => "lint",
         MapsCommand::Repair => "repair",
-        MapsCommand::Compose => "compose",
         MapsCommand::Comment => "comment",
         MapsCommand::Inline => "inline",
         MapsCommand::Outline => "outline",

@@ -4,7 +4,7 @@ use crate::rows::{
 };
 
 /// The options, in the order in which the help lists them and they are looked at.
-pub const OPTIONS: [OptionRow; 15] = [
+pub const OPTIONS: [OptionRow; 13] = [
     OptionOf {
         name: "base",
         value: Value::Text,
@@ -47,7 +47,6 @@ pub const OPTIONS: [OptionRow; 15] = [
             tidy: true,
             flatten: true,
             repair: true,
-            compose: true,
             comment: true,
             inline: true,
             outline: true,
@@ -78,7 +77,6 @@ pub const OPTIONS: [OptionRow; 15] = [
         commands: Commands {
             tidy: true,
             flatten: true,
-            compose: true,
             ..NO_COMMANDS
         },
         help: "Show which members would change",
@@ -92,7 +90,6 @@ pub const OPTIONS: [OptionRow; 15] = [
             check: true,
             tidy: true,
             flatten: true,
-            compose: true,
             ..NO_COMMANDS
         },
         help: "Write a line of JSON for each map",
@@ -156,24 +153,6 @@ pub const OPTIONS: [OptionRow; 15] = [
             ..NO_COMMANDS
         },
         help: "Remove the comments of scripts that name their maps",
-        ..FLAG
-    },
-    OptionOf {
-        name: "thin",
-        commands: Commands {
-            compose: true,
-            ..NO_COMMANDS
-        },
-        help: "Leave out mappings that change no position's original",
-        ..FLAG
-    },
-    OptionOf {
-        name: "used",
-        commands: Commands {
-            compose: true,
-            ..NO_COMMANDS
-        },
-        help: "Leave out sources that no mapping has",
         ..FLAG
     },
     OptionOf {

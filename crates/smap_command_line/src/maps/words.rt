@@ -134,7 +134,6 @@ fn command_in(name: &str) -> Option<MapsCommand>
         "flatten" => Some(MapsCommand::Flatten),
         "lint" => Some(MapsCommand::Lint),
         "repair" => Some(MapsCommand::Repair),
-        "compose" => Some(MapsCommand::Compose),
         "comment" => Some(MapsCommand::Comment),
         "inline" => Some(MapsCommand::Inline),
         "outline" => Some(MapsCommand::Outline),
