@@ -1,4 +1,5 @@
--- Which options a command of `smap-maps` doesn't have, which don't go together, and which it can't do without.
+-- Which options a command of `smap-maps` doesn't have, which don't go together, and which it can't do
+-- without.
 use Rattle.std.specs.Prelude.{◌&&◌, ◌||◌, ℕ, Bool, true, List, Option, Some, None, codes, is_some, not}
 use Rattle.std.specs.Prelude.{if◌then◌else◌}
 use Rattle.std.specs.List.{find}
@@ -7,8 +8,7 @@ use Rattle.clap.specs.Words.{Row, first_of}
 use Rattle.smap_command_line.specs.Lookups.{is_set}
 use Rattle.smap_command_line.specs.Rows.{OptionRow, is_command_of, is_flag}
 use Rattle.smap_command_line.specs.declared.maps.clashes.Clash.{Clash}
-use Rattle.smap_command_line.specs.declared.maps.clashes.Clash.TheVariants.{DropAlone}
-use Rattle.smap_command_line.specs.declared.maps.clashes.Clash.TheVariants.{JsonDiff, NoComment}
+use Rattle.smap_command_line.specs.declared.maps.clashes.Clash.TheVariants.{DropAlone, JsonDiff, NoComment}
 use Rattle.smap_command_line.specs.declared.maps.clashes.Clash.TheVariants.{RelativeAbsolute}
 use Rattle.smap_command_line.specs.declared.maps.clashes.Clash.TheVariants.{SetRemove, WriteDiff}
 use Rattle.smap_command_line.specs.declared.rows.MapsCommand.{MapsCommand}
