@@ -24,6 +24,9 @@ smap-maps tidy: --base --absolute --relative --write --drop --diff --json --url-
 smap-maps flatten: --base --write --drop --diff --json --url-bytes --version --help
 smap-maps lint: --format --rule --min-mapped --url-bytes --version --help
 smap-maps repair: --base --write --url-bytes --version --help
+smap-maps comment: --write --set --remove --url-bytes --version --help
+smap-maps inline: --write --url-bytes --version --help
+smap-maps outline: --write --url-bytes --version --help
 smap-view: --base --url-bytes --compare --sizes --budget --version --help
 '
 
@@ -39,6 +42,7 @@ smap-maps --base:
 smap-maps --format: text gnu github sarif junit json
 smap-maps --rule:
 smap-maps --min-mapped:
+smap-maps --set:
 smap-maps --url-bytes:
 smap-view --base:
 smap-view --url-bytes:

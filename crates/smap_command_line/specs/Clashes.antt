@@ -1,13 +1,18 @@
--- Which options a command of `smap-maps` doesn't have, and which don't go together.
-use Rattle.std.specs.Prelude.{◌&&◌, Bool, List, Option, Some, None, codes, is_some, not, if◌then◌else◌}
+-- Which options a command of `smap-maps` doesn't have, which don't go together, and which it can't do
+-- without.
+use Rattle.std.specs.Prelude.{◌&&◌, ◌||◌, ℕ, Bool, true, List, Option, Some, None, codes, is_some, not}
+use Rattle.std.specs.Prelude.{if◌then◌else◌}
 use Rattle.std.specs.List.{find}
+use Rattle.std.specs.Option.{option_or}
 use Rattle.clap.specs.Words.{Row, first_of}
 use Rattle.smap_command_line.specs.Lookups.{is_set}
 use Rattle.smap_command_line.specs.Rows.{OptionRow, is_command_of, is_flag}
 use Rattle.smap_command_line.specs.declared.maps.clashes.Clash.{Clash}
-use Rattle.smap_command_line.specs.declared.maps.clashes.Clash.TheVariants.{DropAlone, JsonDiff}
-use Rattle.smap_command_line.specs.declared.maps.clashes.Clash.TheVariants.{RelativeAbsolute, WriteDiff}
+use Rattle.smap_command_line.specs.declared.maps.clashes.Clash.TheVariants.{DropAlone, JsonDiff, NoComment}
+use Rattle.smap_command_line.specs.declared.maps.clashes.Clash.TheVariants.{RelativeAbsolute}
+use Rattle.smap_command_line.specs.declared.maps.clashes.Clash.TheVariants.{SetRemove, WriteDiff}
 use Rattle.smap_command_line.specs.declared.rows.MapsCommand.{MapsCommand}
+use Rattle.smap_command_line.specs.declared.rows.MapsCommand.TheVariants as command
 
 abbrev pub is_given : List Row → OptionRow → Bool
 is_given rows o = if is_flag o then is_set o.name rows else is_some (first_of o.name rows)
@@ -20,10 +25,30 @@ is_foreign rows k o = not (is_command_of o.commands k) && is_given rows o
 abbrev pub foreign_option : List Row → MapsCommand → List OptionRow → Option OptionRow
 foreign_option rows k options = find (is_foreign rows k) options
 
+abbrev pub has_value : List ℕ → List Row → Bool
+has_value name rows = is_some (first_of name rows)
+
 -- flags that exclude each other, or `--drop` without `--write`
-abbrev pub clash : List Row → Option Clash
-clash rows =
+abbrev pub excluded_flags : List Row → Option Clash
+excluded_flags rows =
     if is_set (codes "diff") rows && is_set (codes "write") rows then Some WriteDiff else
     (if is_set (codes "relative") rows && is_set (codes "absolute") rows then Some RelativeAbsolute else
     (if is_set (codes "json") rows && is_set (codes "diff") rows then Some JsonDiff else
     (if is_set (codes "drop") rows && not (is_set (codes "write") rows) then Some DropAlone else None)))
+
+-- ways to change scripts and maps that exclude each other
+abbrev pub excluded_ways : List Row → Option Clash
+excluded_ways rows =
+    if has_value (codes "set") rows && is_set (codes "remove") rows then Some SetRemove else None
+
+abbrev pub unless : Bool → Clash → Option Clash
+unless test why = if test then None else Some why
+
+-- what a command can't do without, or can't have
+abbrev pub lacking : List Row → MapsCommand → Option Clash
+lacking rows command.Comment =
+    unless (has_value (codes "set") rows || is_set (codes "remove") rows) NoComment
+lacking rows k = None
+
+abbrev pub clash : List Row → MapsCommand → Option Clash
+clash rows k = option_or (option_or (excluded_flags rows) (excluded_ways rows)) (lacking rows k)

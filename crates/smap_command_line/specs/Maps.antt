@@ -42,7 +42,10 @@ command_named name =
     (if bytes_eq name (codes "tidy") then Some command.Tidy else
     (if bytes_eq name (codes "flatten") then Some command.Flatten else
     (if bytes_eq name (codes "lint") then Some command.Lint else
-    (if bytes_eq name (codes "repair") then Some command.Repair else None))))
+    (if bytes_eq name (codes "repair") then Some command.Repair else
+    (if bytes_eq name (codes "comment") then Some command.Comment else
+    (if bytes_eq name (codes "inline") then Some command.Inline else
+    (if bytes_eq name (codes "outline") then Some command.Outline else None)))))))
 
 -- The first argument is the command, and those behind it are paths.
 abbrev pub command_asked : List Text → Option MapsCommand
@@ -67,7 +70,7 @@ relative asked = not (has asked.options (codes "absolute"))
 pub record HasCommand (rows : List Row) (asked : MapsCommand) (paths : Vec (Bor Text)) : Type 0 where
   pub named : command_asked (arguments_of rows) ≡ Some asked
   pub own : foreign_option rows asked options ≡ None
-  pub together : clash rows ≡ None
+  pub together : clash rows asked ≡ None
   pub paths_are : map (λ path. path.now) paths.items ≡ drop 1 (arguments_of rows)
   pub some : nat_lt 1 (length (arguments_of rows)) ≡ true
 
@@ -97,9 +100,9 @@ Fails rows (fault.NoCommand word) =
     (slice_get (arguments_of rows) 0 ≡ Some word.now) × (command_named word.now ≡ None)
 Fails rows (fault.Foreign k o) = (command_asked (arguments_of rows) ≡ Some k)
     × (foreign_option rows k options ≡ Some (row_view o))
-Fails rows (fault.Clashing why) = (k : MapsCommand) × IsCommand rows k × (clash rows ≡ Some why)
+Fails rows (fault.Clashing why) = (k : MapsCommand) × IsCommand rows k × (clash rows k ≡ Some why)
 Fails rows (fault.NoPath k) =
-    IsCommand rows k × (clash rows ≡ None) × (nat_lt 1 (length (arguments_of rows)) ≡ false)
+    IsCommand rows k × (clash rows k ≡ None) × (nat_lt 1 (length (arguments_of rows)) ≡ false)
 
 -- The first fault: that of the options by themselves, or else that of the command.
 abbrev pub IsFault : List Text → WordFault → Type 0
@@ -115,11 +118,11 @@ IsCommandFault texts (fault.NoCommand word) =
 IsCommandFault texts f = ⊥
 
 abbrev pub IsOptionsFault : List Row → MapsCommand → Result (Unit {0}) WordFault → Type 0
-IsOptionsFault rows k (Ok done) = (foreign_option rows k options ≡ None) × (clash rows ≡ None)
+IsOptionsFault rows k (Ok done) = (foreign_option rows k options ≡ None) × (clash rows k ≡ None)
 IsOptionsFault rows k (Err (fault.Foreign c o)) =
     (c ≡ k) × (foreign_option rows k options ≡ Some (row_view o))
 IsOptionsFault rows k (Err (fault.Clashing why)) =
-    (foreign_option rows k options ≡ None) × (clash rows ≡ Some why)
+    (foreign_option rows k options ≡ None) × (clash rows k ≡ Some why)
 IsOptionsFault rows k (Err f) = ⊥
 
 abbrev pub IsPathFault : List (Bor Text) → MapsCommand → WordFault → Type 0

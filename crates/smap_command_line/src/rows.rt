@@ -11,6 +11,9 @@ pub enum MapsCommand {
     Flatten,
     Lint,
     Repair,
+    Comment,
+    Inline,
+    Outline,
 }
 
 /// Commands of `smap-maps`.
@@ -21,6 +24,9 @@ pub struct Commands {
     pub flatten: bool,
     pub lint: bool,
     pub repair: bool,
+    pub comment: bool,
+    pub inline: bool,
+    pub outline: bool,
 }
 
 /// What the value of an option has to be.
@@ -89,6 +95,21 @@ pub(crate) const NO_COMMANDS: Commands = Commands {
     flatten: false,
     lint: false,
     repair: false,
+    comment: false,
+    inline: false,
+    outline: false,
+};
+
+/// All commands.
+pub(crate) const ALL_COMMANDS: Commands = Commands {
+    check: true,
+    tidy: true,
+    flatten: true,
+    lint: true,
+    repair: true,
+    comment: true,
+    inline: true,
+    outline: true,
 };
 
 /// What most flags have in common.
@@ -134,6 +155,9 @@ impl Commands {
             MapsCommand::Flatten => self.flatten,
             MapsCommand::Lint => self.lint,
             MapsCommand::Repair => self.repair,
+            MapsCommand::Comment => self.comment,
+            MapsCommand::Inline => self.inline,
+            MapsCommand::Outline => self.outline,
         }
     }
 }

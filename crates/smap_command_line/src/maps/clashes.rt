@@ -1,5 +1,6 @@
 //! Options that a command doesn't have, and those that don't go together.
 ghost use Rattle.std.specs.Prelude.{◌≡◌, option_map};
+ghost use Rattle.std.specs.Option.{option_or};
 ghost use Rattle.smap_command_line.specs.Clashes as spec;
 ghost use Rattle.smap_command_line.specs.Lookups.{rows_in};
 ghost use Rattle.smap_command_line.specs.Rows.{row_view, rows_view};
@@ -7,7 +8,7 @@ ghost use Rattle.smap_command_line.specs.Rows.{row_view, rows_view};
 use crate::lookups::Options;
 use crate::rows::{MapsCommand, OptionRow, is_flag};
 
-/// Options that don't go together.
+/// Options that don't go together, or that a command can't do without.
 #[derive(Clone, Copy, PartialEq, Eq)]
 pub enum Clash {
     /// `--write` and `--diff` exclude each other.
@@ -18,6 +19,10 @@ pub enum Clash {
     JsonDiff,
     /// `--drop` is given without `--write`.
     DropAlone,
+    /// `--set` and `--remove` exclude each other.
+    SetRemove,
+    /// `comment` has neither `--set` nor `--remove`.
+    NoComment,
 }
 
 /// Whether an option is given.
@@ -55,9 +60,16 @@ pub(crate) fn foreign_option(
     None
 }
 
-/// Which options don't go together.
-pub(crate) fn clash_of(options: &Options<'_>) -> Option<Clash>
-    ensures { result ≡ spec.clash (rows_in options.now) }
+/// Whether an option with a value is given.
+fn has_value(options: &Options<'_>, name: &str) -> bool
+    ensures { result ≡ spec.has_value name.now (rows_in options.now) }
+{
+    options.text(name).is_some()
+}
+
+/// Which flags exclude each other.
+fn excluded_flags(options: &Options<'_>) -> Option<Clash>
+    ensures { result ≡ spec.excluded_flags (rows_in options.now) }
 {
     if options.has("diff") && options.has("write") {
         Some(Clash::WriteDiff)
@@ -70,4 +82,53 @@ pub(crate) fn clash_of(options: &Options<'_>) -> Option<Clash>
     } else {
         None
     }
+}
+
+/// Which ways to change scripts and maps exclude each other.
+fn excluded_ways(options: &Options<'_>) -> Option<Clash>
+    ensures { result ≡ spec.excluded_ways (rows_in options.now) }
+{
+    if has_value(options, "set") && options.has("remove") {
+        Some(Clash::SetRemove)
+    } else {
+        None
+    }
+}
+
+/// This, unless the test holds.
+fn unless(test: bool, clash: Clash) -> Option<Clash>
+    ensures { result ≡ spec.unless test clash }
+{
+    if test { None } else { Some(clash) }
+}
+
+/// What the command can't do without, or can't have.
+fn lacking(options: &Options<'_>, command: MapsCommand) -> Option<Clash>
+    ensures { result ≡ spec.lacking (rows_in options.now) command }
+{
+    match command {
+        MapsCommand::Comment => {
+            let is_said = has_value(options, "set") || options.has("remove");
+            unless(is_said, Clash::NoComment)
+        }
+        _ => None,
+    }
+}
+
+/// This clash, or else the other.
+fn first(one: Option<Clash>, other: Option<Clash>) -> Option<Clash>
+    ensures { result ≡ option_or one other }
+{
+    match one {
+        Some(clash) => Some(clash),
+        None => other,
+    }
+}
+
+/// Which options don't go together, or which the command can't do without.
+pub(crate) fn clash_of(options: &Options<'_>, command: MapsCommand) -> Option<Clash>
+    ensures { result ≡ spec.clash (rows_in options.now) command }
+{
+    let excluded = first(excluded_flags(options), excluded_ways(options));
+    first(excluded, lacking(options, command))
 }

@@ -13,6 +13,9 @@ fn command_text(command: MapsCommand) -> &'static str {
         MapsCommand::Flatten => "flatten",
         MapsCommand::Lint => "lint",
         MapsCommand::Repair => "repair",
+        MapsCommand::Comment => "comment",
+        MapsCommand::Inline => "inline",
+        MapsCommand::Outline => "outline",
     }
 }
 
@@ -22,6 +25,8 @@ fn clash_text(clash: Clash) -> &'static str {
         Clash::RelativeAbsolute => "--relative and --absolute at once",
         Clash::JsonDiff => "--json and --diff at once",
         Clash::DropAlone => "--drop needs --write",
+        Clash::SetRemove => "--set and --remove at once",
+        Clash::NoComment => "comment needs --set or --remove",
     }
 }
 
@@ -36,7 +41,7 @@ pub fn message(alloc: Global, fault: &WordFault<'_>) -> Result<String, AllocErro
         WordFault::Options(fault) => option_message(alloc, fault),
         WordFault::Nothing => String::from_str(alloc, "no command"),
         WordFault::NoCommand(word) => {
-            format!(in alloc; "no such command: {word} (check, tidy, flatten, lint or repair)")
+            format!(in alloc; "no such command: {word} (--help lists them)")
         }
         WordFault::Foreign(command, option) => {
             let (command, name) = (command_text(*command), option.name);

@@ -1,8 +1,10 @@
 //! The options of `smap-maps`.
-use crate::rows::{Commands, FLAG, NO_COMMANDS, OptionOf, OptionRow, URL_BYTES, Value};
+use crate::rows::{
+    ALL_COMMANDS, Commands, FLAG, NO_COMMANDS, OptionOf, OptionRow, URL_BYTES, Value,
+};
 
 /// The options, in the order in which the help lists them and they are looked at.
-pub const OPTIONS: [OptionRow; 11] = [
+pub const OPTIONS: [OptionRow; 13] = [
     OptionOf {
         name: "base",
         value: Value::Text,
@@ -45,9 +47,12 @@ pub const OPTIONS: [OptionRow; 11] = [
             tidy: true,
             flatten: true,
             repair: true,
+            comment: true,
+            inline: true,
+            outline: true,
             ..NO_COMMANDS
         },
-        help: "Rewrite the maps that would change, unless they would lose a member",
+        help: "Rewrite the files that would change, unless a map would lose a member",
         details: "They are named. A refused map is left alone, and so is one that would lose a member, \
                   which is named on standard error. The new map is written to another file in the same \
                   folder, which is then renamed: at any time the map is whole, old or new. A map that \
@@ -131,13 +136,27 @@ pub const OPTIONS: [OptionRow; 11] = [
         ..FLAG
     },
     OptionOf {
+        name: "set",
+        value: Value::Text,
+        value_name: "URL",
         commands: Commands {
-            check: true,
-            tidy: true,
-            flatten: true,
-            lint: true,
-            repair: true,
+            comment: true,
+            ..NO_COMMANDS
         },
+        help: "Set the comment of each script that names its map to URL",
+        ..FLAG
+    },
+    OptionOf {
+        name: "remove",
+        commands: Commands {
+            comment: true,
+            ..NO_COMMANDS
+        },
+        help: "Remove the comments of scripts that name their maps",
+        ..FLAG
+    },
+    OptionOf {
+        commands: ALL_COMMANDS,
         ..URL_BYTES
     },
 ];

@@ -15,7 +15,7 @@ use crate::rows::{MapsCommand, OptionRow};
 use std::alloc::{AllocError, Global};
 
 /// What an error of `clap` shows of how the program is called.
-const USAGE: &str = "smap-maps check|tidy|flatten|lint|repair [OPTION]... PATH...";
+const USAGE: &str = "smap-maps COMMAND [OPTION]... PATH...";
 
 /// What becomes of a map that would change.
 #[derive(Clone, Copy, Debug, PartialEq, Eq)]
@@ -134,6 +134,9 @@ fn command_in(name: &str) -> Option<MapsCommand>
         "flatten" => Some(MapsCommand::Flatten),
         "lint" => Some(MapsCommand::Lint),
         "repair" => Some(MapsCommand::Repair),
+        "comment" => Some(MapsCommand::Comment),
+        "inline" => Some(MapsCommand::Inline),
+        "outline" => Some(MapsCommand::Outline),
         _ => None,
     }
 }
@@ -159,7 +162,7 @@ fn check_options<'a>(options: &Options<'_>, command: MapsCommand) -> Result<(), 
     if let Some(row) = foreign_option(options, command, &OPTIONS) {
         return Err(WordFault::Foreign(command, row));
     }
-    match clash_of(options) {
+    match clash_of(options, command) {
         Some(clash) => Err(WordFault::Clashing(clash)),
         None => Ok(()),
     }

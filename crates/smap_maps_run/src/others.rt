@@ -1,0 +1,65 @@
+//! The commands that don't look at maps one after another.
+use crate::changing::{comment_task, scripts_asked};
+use crate::linting::lint_asked;
+use smap_command_line::MapsCommand;
+use smap_command_line::maps::MapsWords;
+use smap_lint_run::lint;
+use smap_script_run::{ScriptTask, edit_scripts};
+use smap_system::{Disk, Host, Stop, Watched};
+use std::io::Write;
+
+/// Says why the maps of a build don't work.
+fn lint_build<E: Eprint + AllocGlobal, D: Disk, W: Write>(
+    host: &Host<'_, E, D>,
+    asked: &MapsWords<'_>,
+    writer: &mut Watched<W>,
+) -> Result<u8, Stop> {
+    let asked = lint_asked(host.alloc(), asked)?;
+    lint(host, &asked, writer)?;
+    Ok(0)
+}
+
+/// Sets or removes the comments of scripts.
+fn comment<E: Eprint + AllocGlobal, D: Disk, W: Write>(
+    host: &Host<'_, E, D>,
+    asked: &MapsWords<'_>,
+    writer: &mut Watched<W>,
+) -> Result<u8, Stop> {
+    let asked = scripts_asked(host.alloc(), asked, comment_task(asked))?;
+    edit_scripts(host, &asked, writer)
+}
+
+/// Puts maps into their scripts.
+fn inline<E: Eprint + AllocGlobal, D: Disk, W: Write>(
+    host: &Host<'_, E, D>,
+    asked: &MapsWords<'_>,
+    writer: &mut Watched<W>,
+) -> Result<u8, Stop> {
+    let asked = scripts_asked(host.alloc(), asked, ScriptTask::Inline)?;
+    edit_scripts(host, &asked, writer)
+}
+
+/// Puts maps within scripts into files.
+fn outline<E: Eprint + AllocGlobal, D: Disk, W: Write>(
+    host: &Host<'_, E, D>,
+    asked: &MapsWords<'_>,
+    writer: &mut Watched<W>,
+) -> Result<u8, Stop> {
+    let asked = scripts_asked(host.alloc(), asked, ScriptTask::Outline)?;
+    edit_scripts(host, &asked, writer)
+}
+
+/// Does what a command says that doesn't look at maps one after another. Answers the status of a run that
+/// came to its end.
+pub(crate) fn do_other<E: Eprint + AllocGlobal, D: Disk, W: Write>(
+    host: &Host<'_, E, D>,
+    asked: &MapsWords<'_>,
+    writer: &mut Watched<W>,
+) -> Result<u8, Stop> {
+    match asked.command {
+        MapsCommand::Comment => comment(host, asked, writer),
+        MapsCommand::Inline => inline(host, asked, writer),
+        MapsCommand::Outline => outline(host, asked, writer),
+        _ => lint_build(host, asked, writer),
+    }
+}
