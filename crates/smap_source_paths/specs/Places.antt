@@ -1,9 +1,9 @@
 -- Paths of several sources, no two of which are one file or a file and its folder.
-use Rattle.std.specs.Prelude.{◌≡◌, ◌⊎◌, ℕ, ◌<◌, ◌^◌, Bool, true, false, List, [], ◌++◌, bytes_eq}
+use Rattle.std.specs.Prelude.{◌≡◌, ◌⊎◌, ℕ, ◌<◌, ◌^◌, Bool, true, false, List, [], ◌∷◌, ◌++◌, bytes_eq}
 use Rattle.std.specs.Prelude.{get_or, length, map, take}
 use Rattle.std.specs.Char.{to_ascii_lowercase}
 use Rattle.std.specs.Global.{Vec}
-use Rattle.std.specs.List.{All, IsDistinct, list_any}
+use Rattle.std.specs.List.{AllZip, IsDistinct, list_any}
 use Rattle.smap_source_paths.specs.Paths.{file_name, folder_text, folders}
 use Rattle.smap_source_paths.specs.Segments.{numbered}
 use Rattle.smap_source_paths.specs.declared.path.SourcePath.{SourcePath}
@@ -16,14 +16,14 @@ IsPath path p = (p.folder.items ≡ folder_text (folders path)) × (p.name.items
 abbrev pub key : SourcePath → List ℕ
 key p = map to_ascii_lowercase (p.folder.items ++ p.name.items)
 
--- The folder that ends before this slash, by what it is known by.
-abbrev pub folder_key : SourcePath → ℕ → List ℕ
-folder_key p i = map to_ascii_lowercase (take i p.folder.items)
+-- The folder that ends before a slash of such a text, by what it is known by.
+abbrev pub folder_key : List ℕ → ℕ → List ℕ
+folder_key folder i = map to_ascii_lowercase (take i folder)
 
--- These names have that of each folder of a path.
-abbrev pub HasFolders : List (List ℕ) → SourcePath → Type 0
-HasFolders known p = (i : ℕ) → i < length p.folder.items → get_or p.folder.items i 0 ≡ 47
-    → list_any (bytes_eq (folder_key p i)) known ≡ true
+-- These names have that of each folder of such a text.
+abbrev pub HasFolders : List (List ℕ) → List ℕ → Type 0
+HasFolders known folder = (i : ℕ) → i < length folder → get_or folder i 0 ≡ 47
+    → list_any (bytes_eq (folder_key folder i)) known ≡ true
 
 -- The path that was wanted, or that with a number.
 abbrev pub IsOneOf : SourcePath → SourcePath → Type 0
@@ -34,12 +34,11 @@ IsOneOf wanted p = (p.folder.items ≡ wanted.folder.items) × ((p.name.items �
 abbrev pub AreApart : List SourcePath → Type 0
 AreApart ps = (j k i : ℕ) (d : SourcePath) → j < length ps → k < length ps
     → i < length (get_or ps j d).folder.items → get_or (get_or ps j d).folder.items i 0 ≡ 47
-    → bytes_eq (folder_key (get_or ps j d) i) (key (get_or ps k d)) ≡ false
+    → bytes_eq (folder_key (get_or ps j d).folder.items i) (key (get_or ps k d)) ≡ false
 
 -- The paths that sources get for those that are wanted.
 pub record ArePlaced (wanted placed : List SourcePath) : Type 0 where
-  pub all : length placed ≡ length wanted
-  pub each : (k : ℕ) (d : SourcePath) → k < length wanted → IsOneOf (get_or wanted k d) (get_or placed k d)
+  pub each : AllZip IsOneOf wanted placed
   pub distinct : IsDistinct bytes_eq (map key placed)
   pub apart : AreApart placed
 

@@ -1,6 +1,6 @@
 //! The path of one source.
-ghost use Rattle.std.specs.Prelude.{◌≡◌, ◌≤◌, ◌||◌, ◌==◌, IfOk, IsTrue, filter, length, map, not};
-ghost use Rattle.std.specs.List.{prefix_len, slice_split};
+ghost use Rattle.std.specs.Prelude.{◌≡◌, ◌≤◌, ◌++◌, ◌∷◌, [], IfOk, OnOk, filter, length, map};
+ghost use Rattle.std.specs.Str.{is_utf8};
 ghost use Rattle.percent_encoding.specs.Percent.{percent_decode as decoded_text};
 ghost use Rattle.smap_source_paths.specs.Paths as spec;
 ghost use Rattle.smap_source_paths.specs.Places.{IsPath};
@@ -56,12 +56,21 @@ fn bytes_of(alloc: Global, text: &[u8]) -> Result<Vec<u8>, AllocError>
     Ok(bytes)
 }
 
+fn is_text(bytes: &[u8]) -> bool
+    ensures { result ≡ is_utf8 bytes.now }
+{
+    match std::str::from_utf8(bytes) {
+        Ok(_) => true,
+        Err(_) => false,
+    }
+}
+
 /// Text that is percent-decoded once, where that is UTF-8.
 fn decoded(alloc: Global, text: &[u8]) -> Result<Vec<u8>, AllocError>
     ensures { IfOk result (λ v. v.items ≡ spec.decoded text.now) }
 {
     let bytes = bytes_of(alloc, text)?;
-    if std::str::from_utf8(&bytes).is_ok() {
+    if is_text(&bytes) {
         return Ok(bytes);
     }
     Vec::from_slice(alloc, text)
@@ -88,15 +97,24 @@ fn leads(segment: &[u8]) -> bool
     }
 }
 
+/// Adds a segment, unless it is empty or dots.
+fn add_step<'a>(steps: &mut Vec<&'a [u8]>, segment: &'a [u8]) -> Result<(), AllocError>
+    ensures { OnOk result (map (λ s. s.now) steps.new.items
+        ≡ map (λ s. s.now) steps.old.items ++ filter spec.leads (segment.now ∷ [])) }
+{
+    if leads(segment) {
+        steps.push(segment)?;
+    }
+    Ok(())
+}
+
 /// The segments of a text that are neither empty nor dots.
 fn steps<'a>(alloc: Global, text: &'a [u8]) -> Result<Vec<&'a [u8]>, AllocError>
     ensures { IfOk result (λ v. map (λ s. s.now) v.items ≡ spec.steps text.now) }
 {
     let mut steps = Vec::new(alloc);
     for segment in text.split(|b| is_separator(*b)) {
-        if leads(segment) {
-            steps.push(segment)?;
-        }
+        add_step(&mut steps, segment)?;
     }
     Ok(steps)
 }
@@ -112,6 +130,14 @@ fn folder_text(alloc: Global, steps: &[&[u8]]) -> Result<Vec<u8>, AllocError>
         text.push(b'/')?;
     }
     Ok(text)
+}
+
+/// Those that are nearest to the file.
+fn last_steps<'s, 'a>(steps: &'s [&'a [u8]]) -> &'s [&'a [u8]]
+    ensures { map (λ s. is_cleaned s.now) result.now
+        ≡ map is_cleaned (spec.last_steps (map (λ s. s.now) steps.now)) }
+{
+    &steps[steps.len().saturating_sub(MOST_STEPS)..]
 }
 
 /// The path of these names.
@@ -143,5 +169,5 @@ pub fn source_path(alloc: Global, url: &[u8]) -> Result<SourcePath, AllocError>
 {
     let text = naming_part(alloc, url)?;
     let steps = steps(alloc, &text)?;
-    path_from(alloc, &steps[steps.len().saturating_sub(MOST_STEPS)..])
+    path_from(alloc, last_steps(&steps))
 }

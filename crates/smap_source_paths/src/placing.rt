@@ -1,7 +1,7 @@
 //! Paths of several sources.
-ghost use Rattle.std.specs.Prelude.{◌≡◌, IfOk, OnOk, map};
+ghost use Rattle.std.specs.Prelude.{◌≡◌, false, IfOk, OnOk, bytes_eq, map};
 ghost use Rattle.std.specs.Char.{to_ascii_lowercase as lower};
-ghost use Rattle.std.specs.List.{All};
+ghost use Rattle.std.specs.List.{All, AllZip, IsDistinct, list_any};
 ghost use Rattle.smap_source_paths.specs.Places as spec;
 ghost use Rattle.smap_source_paths.specs.Places.{ArePlaced, HasFolders, IsOneOf, IsPlaced, IsTaken, Keeps};
 ghost use Rattle.smap_source_paths.specs.Places.{items_of};
@@ -48,7 +48,7 @@ fn add_folders(
     path: &SourcePath,
     folders: &mut IndexSet<Vec<u8>>,
 ) -> Result<(), AllocError>
-    ensures has { OnOk result (HasFolders (items_of folders.new.keys) path.now) }
+    ensures has { OnOk result (HasFolders (items_of folders.new.keys) path.now.folder.items) }
     ensures keeps { OnOk result (Keeps (items_of folders.old.keys) (items_of folders.new.keys)) }
 {
     for i in 0..path.folder.len() {
@@ -61,7 +61,8 @@ fn add_folders(
 
 /// The folders of all paths.
 fn folders_of(alloc: Global, paths: &[SourcePath]) -> Result<IndexSet<Vec<u8>>, AllocError>
-    ensures { IfOk result (λ folders. All (HasFolders (items_of folders.keys)) paths.now) }
+    ensures { IfOk result (λ folders. All (λ p. HasFolders (items_of folders.keys) p.folder.items)
+        paths.now) }
 {
     let mut folders = IndexSet::new(alloc);
     for path in paths {
@@ -148,6 +149,27 @@ fn place(
     Ok(other)
 }
 
+/// The paths that sources get, where these are folders.
+fn placed_among(
+    alloc: Global,
+    folders: &IndexSet<Vec<u8>>,
+    paths: &[SourcePath],
+) -> Result<Vec<SourcePath>, AllocError>
+    ensures each { IfOk result (λ all. AllZip IsOneOf paths.now all.items) }
+    ensures distinct { IfOk result (λ all. IsDistinct bytes_eq (map spec.key all.items)) }
+    ensures free { IfOk result (λ all. All (λ p. list_any (bytes_eq (spec.key p)) (items_of folders.now.keys)
+        ≡ false) all.items) }
+{
+    let mut numbers = IndexMap::new(alloc);
+    let mut taken = IndexSet::new(alloc);
+    let mut all = Vec::new(alloc);
+    for path in paths {
+        let path = place(alloc, folders, path, &mut numbers, &mut taken)?;
+        all.push(path)?;
+    }
+    Ok(all)
+}
+
 /// The paths that sources get for those that are wanted, in their order: each as it is where it is free, and
 /// otherwise with the first number from 2 on with which it is. A path is free unless a source before it has
 /// it, or one of all sources is in a folder of that name.
@@ -159,12 +181,6 @@ pub fn placed(alloc: Global, paths: &[SourcePath]) -> Result<Vec<SourcePath>, Al
     ensures { IfOk result (λ all. ArePlaced paths.now all.items) }
 {
     let folders = folders_of(alloc, paths)?;
-    let mut numbers = IndexMap::new(alloc);
-    let mut taken = IndexSet::new(alloc);
-    let mut all = Vec::with_capacity(alloc, paths.len())?;
-    for path in paths {
-        let path = place(alloc, &folders, path, &mut numbers, &mut taken)?;
-        all.push(path)?;
-    }
+    let all = placed_among(alloc, &folders, paths)?;
     Ok(all)
 }

@@ -120,7 +120,8 @@ fn is_device_word(word: &[u8]) -> bool
         || (same_word(word, b"prn")
             || (same_word(word, b"aux")
                 || (same_word(word, b"nul")
-                    || (same_word(word, b"conin$") || (same_word(word, b"conout$") || is_port(word))))))
+                    || (same_word(word, b"conin$")
+                        || (same_word(word, b"conout$") || is_port(word))))))
 }
 
 fn stem_size(name: &[u8]) -> usize
