@@ -27,17 +27,24 @@ is_foreign rows k o = not (is_command_of o.commands k) && is_given rows o
 abbrev pub foreign_option : List Row → MapsCommand → List OptionRow → Option OptionRow
 foreign_option rows k options = find (is_foreign rows k) options
 
+abbrev pub has_value : List ℕ → List Row → Bool
+has_value name rows = is_some (first_of name rows)
+
 -- flags that exclude each other, or `--drop` without `--write`
-abbrev pub excluded : List Row → Option Clash
-excluded rows =
+abbrev pub excluded_flags : List Row → Option Clash
+excluded_flags rows =
     if is_set (codes "diff") rows && is_set (codes "write") rows then Some WriteDiff else
     (if is_set (codes "relative") rows && is_set (codes "absolute") rows then Some RelativeAbsolute else
     (if is_set (codes "json") rows && is_set (codes "diff") rows then Some JsonDiff else
-    (if is_set (codes "drop") rows && not (is_set (codes "write") rows) then Some DropAlone else
-    (if is_some (first_of (codes "set") rows) && is_set (codes "remove") rows then Some SetRemove else
+    (if is_set (codes "drop") rows && not (is_set (codes "write") rows) then Some DropAlone else None)))
+
+-- ways to change scripts and maps that exclude each other
+abbrev pub excluded_ways : List Row → Option Clash
+excluded_ways rows =
+    if has_value (codes "set") rows && is_set (codes "remove") rows then Some SetRemove else
     (if is_set (codes "add") rows && is_set (codes "remove") rows then Some AddRemove else
-    (if is_some (first_of (codes "source-prefix") rows) && is_set (codes "strip-common") rows
-    then Some PrefixCommon else None))))))
+    (if has_value (codes "source-prefix") rows && is_set (codes "strip-common") rows
+    then Some PrefixCommon else None))
 
 -- the forms of `--format` that a command writes
 abbrev pub writes : MapsCommand → List ℕ → Bool
@@ -55,15 +62,15 @@ unless test why = if test then None else Some why
 -- what a command can't do without, or can't have
 abbrev pub lacking : List Row → MapsCommand → Option Clash
 lacking rows command.Comment =
-    unless (is_some (first_of (codes "set") rows) || is_set (codes "remove") rows) NoComment
+    unless (has_value (codes "set") rows || is_set (codes "remove") rows) NoComment
 lacking rows command.Contents =
     unless (is_set (codes "add") rows || is_set (codes "remove") rows) NoContents
 lacking rows command.Rename =
-    unless (is_some (first_of (codes "source-prefix") rows) || is_set (codes "strip-common") rows) NoRenaming
-lacking rows command.Extract = unless (is_some (first_of (codes "output") rows)) NoOutput
+    unless (has_value (codes "source-prefix") rows || is_set (codes "strip-common") rows) NoRenaming
+lacking rows command.Extract = unless (has_value (codes "output") rows) NoOutput
 lacking rows command.Lint = unless (writes_form rows command.Lint) LintFormat
 lacking rows command.Diff = unless (writes_form rows command.Diff) DiffFormat
 lacking rows k = None
 
 abbrev pub clash : List Row → MapsCommand → Option Clash
-clash rows k = option_or (excluded rows) (lacking rows k)
+clash rows k = option_or (option_or (excluded_flags rows) (excluded_ways rows)) (lacking rows k)

@@ -1,5 +1,6 @@
 //! Options that a command doesn't have, and those that don't go together.
 ghost use Rattle.std.specs.Prelude.{◌≡◌, option_map};
+ghost use Rattle.std.specs.Option.{option_or};
 ghost use Rattle.smap_command_line.specs.Clashes as spec;
 ghost use Rattle.smap_command_line.specs.Lookups.{rows_in};
 ghost use Rattle.smap_command_line.specs.Rows.{row_view, rows_view};
@@ -73,9 +74,16 @@ pub(crate) fn foreign_option(
     None
 }
 
-/// Which options exclude each other.
-fn excluded(options: &Options<'_>) -> Option<Clash>
-    ensures { result ≡ spec.excluded (rows_in options.now) }
+/// Whether an option with a value is given.
+fn has_value(options: &Options<'_>, name: &str) -> bool
+    ensures { result ≡ spec.has_value name.now (rows_in options.now) }
+{
+    options.text(name).is_some()
+}
+
+/// Which flags exclude each other.
+fn excluded_flags(options: &Options<'_>) -> Option<Clash>
+    ensures { result ≡ spec.excluded_flags (rows_in options.now) }
 {
     if options.has("diff") && options.has("write") {
         Some(Clash::WriteDiff)
@@ -90,6 +98,21 @@ fn excluded(options: &Options<'_>) -> Option<Clash>
     } else if options.has("add") && options.has("remove") {
         Some(Clash::AddRemove)
     } else if options.text("source-prefix").is_some() && options.has("strip-common") {
+        Some(Clash::PrefixCommon)
+    } else {
+        None
+    }
+}
+
+/// Which ways to change scripts and maps exclude each other.
+fn excluded_ways(options: &Options<'_>) -> Option<Clash>
+    ensures { result ≡ spec.excluded_ways (rows_in options.now) }
+{
+    if has_value(options, "set") && options.has("remove") {
+        Some(Clash::SetRemove)
+    } else if options.has("add") && options.has("remove") {
+        Some(Clash::AddRemove)
+    } else if has_value(options, "source-prefix") && options.has("strip-common") {
         Some(Clash::PrefixCommon)
     } else {
         None
@@ -130,7 +153,7 @@ fn lacking(options: &Options<'_>, command: MapsCommand) -> Option<Clash>
 {
     match command {
         MapsCommand::Comment => {
-            let is_said = options.text("set").is_some() || options.has("remove");
+            let is_said = has_value(options, "set") || options.has("remove");
             unless(is_said, Clash::NoComment)
         }
         MapsCommand::Contents => {
@@ -138,13 +161,23 @@ fn lacking(options: &Options<'_>, command: MapsCommand) -> Option<Clash>
             unless(is_said, Clash::NoContents)
         }
         MapsCommand::Rename => {
-            let is_said = options.text("source-prefix").is_some() || options.has("strip-common");
+            let is_said = has_value(options, "source-prefix") || options.has("strip-common");
             unless(is_said, Clash::NoRenaming)
         }
-        MapsCommand::Extract => unless(options.text("output").is_some(), Clash::NoOutput),
+        MapsCommand::Extract => unless(has_value(options, "output"), Clash::NoOutput),
         MapsCommand::Lint => unless(writes_form(options, command), Clash::LintFormat),
         MapsCommand::Diff => unless(writes_form(options, command), Clash::DiffFormat),
         _ => None,
+    }
+}
+
+/// This clash, or else the other.
+fn first(one: Option<Clash>, other: Option<Clash>) -> Option<Clash>
+    ensures { result ≡ option_or one other }
+{
+    match one {
+        Some(clash) => Some(clash),
+        None => other,
     }
 }
 
@@ -152,8 +185,6 @@ fn lacking(options: &Options<'_>, command: MapsCommand) -> Option<Clash>
 pub(crate) fn clash_of(options: &Options<'_>, command: MapsCommand) -> Option<Clash>
     ensures { result ≡ spec.clash (rows_in options.now) command }
 {
-    match excluded(options) {
-        Some(clash) => Some(clash),
-        None => lacking(options, command),
-    }
+    let excluded = first(excluded_flags(options), excluded_ways(options));
+    first(excluded, lacking(options, command))
 }
