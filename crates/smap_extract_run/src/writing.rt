@@ -61,7 +61,7 @@ fn say_number<E: Eprint + AllocGlobal, D: Disk>(
     let alloc = host.alloc();
     let wanted = String::from_utf8_lossy(alloc, wanted)?;
     let wanted = wanted.as_str();
-    let text = format!(in alloc; "another source of the path {wanted}")?;
+    let text = format!(in alloc; "in place of {wanted}, which another source takes")?;
     host.say_of(file, text.as_str());
     Ok(())
 }

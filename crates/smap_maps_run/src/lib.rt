@@ -10,6 +10,7 @@
 #![tactic(auto)]
 
 mod deciding;
+mod extracting;
 mod forms;
 mod json_lines;
 mod judging;

@@ -1,4 +1,5 @@
 //! The commands that don't look at maps one after another.
+use crate::extracting::extract;
 use crate::linting::lint_asked;
 use smap_command_line::MapsCommand;
 use smap_command_line::maps::MapsWords;
@@ -15,15 +16,6 @@ fn lint_build<E: Eprint + AllocGlobal, D: Disk, W: Write>(
     let asked = lint_asked(host.alloc(), asked)?;
     lint(host, &asked, writer)?;
     Ok(0)
-}
-
-/// Extracts the sources of maps.
-fn extract<E: Eprint + AllocGlobal, D: Disk, W: Write>(
-    host: &Host<'_, E, D>,
-    _asked: &MapsWords<'_>,
-    _writer: &mut Watched<W>,
-) -> Result<u8, Stop> {
-    Err(host.fail(2, "not yet"))
 }
 
 /// Says what differs between two maps.

@@ -93,12 +93,6 @@ fn excluded_flags(options: &Options<'_>) -> Option<Clash>
         Some(Clash::JsonDiff)
     } else if options.has("drop") && !options.has("write") {
         Some(Clash::DropAlone)
-    } else if options.text("set").is_some() && options.has("remove") {
-        Some(Clash::SetRemove)
-    } else if options.has("add") && options.has("remove") {
-        Some(Clash::AddRemove)
-    } else if options.text("source-prefix").is_some() && options.has("strip-common") {
-        Some(Clash::PrefixCommon)
     } else {
         None
     }
