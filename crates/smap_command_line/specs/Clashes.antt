@@ -1,17 +1,15 @@
--- Which options a command of `smap-maps` doesn't have, which don't go together, and which it can't do without.
+-- Which options a command of `smap-maps` doesn't have, which don't go together, and which it can't do
+-- without.
 use Rattle.std.specs.Prelude.{◌&&◌, ◌||◌, ℕ, Bool, true, List, Option, Some, None, codes, is_some, not}
 use Rattle.std.specs.Prelude.{if◌then◌else◌}
 use Rattle.std.specs.List.{find}
-use Rattle.std.specs.Option.{option_map_or, option_or}
-use Rattle.std.specs.Str.{bytes_eq}
+use Rattle.std.specs.Option.{option_or}
 use Rattle.clap.specs.Words.{Row, first_of}
 use Rattle.smap_command_line.specs.Lookups.{is_set}
 use Rattle.smap_command_line.specs.Rows.{OptionRow, is_command_of, is_flag}
 use Rattle.smap_command_line.specs.declared.maps.clashes.Clash.{Clash}
-use Rattle.smap_command_line.specs.declared.maps.clashes.Clash.TheVariants.{AddRemove, DiffFormat, DropAlone}
-use Rattle.smap_command_line.specs.declared.maps.clashes.Clash.TheVariants.{JsonDiff, LintFormat, NoComment}
-use Rattle.smap_command_line.specs.declared.maps.clashes.Clash.TheVariants.{NoContents, NoOutput, NoRenaming}
-use Rattle.smap_command_line.specs.declared.maps.clashes.Clash.TheVariants.{PrefixCommon, RelativeAbsolute}
+use Rattle.smap_command_line.specs.declared.maps.clashes.Clash.TheVariants.{DropAlone, JsonDiff, NoComment}
+use Rattle.smap_command_line.specs.declared.maps.clashes.Clash.TheVariants.{NoOutput, RelativeAbsolute}
 use Rattle.smap_command_line.specs.declared.maps.clashes.Clash.TheVariants.{SetRemove, WriteDiff}
 use Rattle.smap_command_line.specs.declared.rows.MapsCommand.{MapsCommand}
 use Rattle.smap_command_line.specs.declared.rows.MapsCommand.TheVariants as command
@@ -41,20 +39,7 @@ excluded_flags rows =
 -- ways to change scripts and maps that exclude each other
 abbrev pub excluded_ways : List Row → Option Clash
 excluded_ways rows =
-    if has_value (codes "set") rows && is_set (codes "remove") rows then Some SetRemove else
-    (if is_set (codes "add") rows && is_set (codes "remove") rows then Some AddRemove else
-    (if has_value (codes "source-prefix") rows && is_set (codes "strip-common") rows
-    then Some PrefixCommon else None))
-
--- the forms of `--format` that a command writes
-abbrev pub writes : MapsCommand → List ℕ → Bool
-writes command.Lint format = not (bytes_eq format (codes "markdown"))
-writes command.Diff format = bytes_eq format (codes "text")
-    || (bytes_eq format (codes "json") || bytes_eq format (codes "markdown"))
-writes k format = true
-
-abbrev pub writes_form : List Row → MapsCommand → Bool
-writes_form rows k = option_map_or (writes k) (first_of (codes "format") rows) true
+    if has_value (codes "set") rows && is_set (codes "remove") rows then Some SetRemove else None
 
 abbrev pub unless : Bool → Clash → Option Clash
 unless test why = if test then None else Some why
@@ -63,13 +48,7 @@ unless test why = if test then None else Some why
 abbrev pub lacking : List Row → MapsCommand → Option Clash
 lacking rows command.Comment =
     unless (has_value (codes "set") rows || is_set (codes "remove") rows) NoComment
-lacking rows command.Contents =
-    unless (is_set (codes "add") rows || is_set (codes "remove") rows) NoContents
-lacking rows command.Rename =
-    unless (has_value (codes "source-prefix") rows || is_set (codes "strip-common") rows) NoRenaming
 lacking rows command.Extract = unless (has_value (codes "output") rows) NoOutput
-lacking rows command.Lint = unless (writes_form rows command.Lint) LintFormat
-lacking rows command.Diff = unless (writes_form rows command.Diff) DiffFormat
 lacking rows k = None
 
 abbrev pub clash : List Row → MapsCommand → Option Clash

@@ -12,14 +12,9 @@ pub enum MapsCommand {
     Lint,
     Repair,
     Extract,
-    Diff,
-    Compose,
     Comment,
     Inline,
     Outline,
-    Rename,
-    Contents,
-    DebugId,
 }
 
 /// Commands of `smap-maps`.
@@ -31,14 +26,9 @@ pub struct Commands {
     pub lint: bool,
     pub repair: bool,
     pub extract: bool,
-    pub diff: bool,
-    pub compose: bool,
     pub comment: bool,
     pub inline: bool,
     pub outline: bool,
-    pub rename: bool,
-    pub contents: bool,
-    pub debug_id: bool,
 }
 
 /// What the value of an option has to be.
@@ -62,10 +52,8 @@ pub enum Value {
     Level,
 }
 
-/// The forms of the findings of `smap-maps lint`, and behind them that of `diff` which `lint` doesn't have.
-pub const FORMATS: [&str; 7] = [
-    "text", "gnu", "github", "sarif", "junit", "json", "markdown",
-];
+/// The forms of the findings of `smap-maps lint`.
+pub const FORMATS: [&str; 6] = ["text", "gnu", "github", "sarif", "junit", "json"];
 
 /// How much a rule of `smap-maps lint` may count.
 pub const LEVELS: [&str; 4] = ["off", "note", "warning", "error"];
@@ -110,14 +98,9 @@ pub(crate) const NO_COMMANDS: Commands = Commands {
     lint: false,
     repair: false,
     extract: false,
-    diff: false,
-    compose: false,
     comment: false,
     inline: false,
     outline: false,
-    rename: false,
-    contents: false,
-    debug_id: false,
 };
 
 /// All commands.
@@ -128,14 +111,9 @@ pub(crate) const ALL_COMMANDS: Commands = Commands {
     lint: true,
     repair: true,
     extract: true,
-    diff: true,
-    compose: true,
     comment: true,
     inline: true,
     outline: true,
-    rename: true,
-    contents: true,
-    debug_id: true,
 };
 
 /// What most flags have in common.
@@ -182,14 +160,9 @@ impl Commands {
             MapsCommand::Lint => self.lint,
             MapsCommand::Repair => self.repair,
             MapsCommand::Extract => self.extract,
-            MapsCommand::Diff => self.diff,
-            MapsCommand::Compose => self.compose,
             MapsCommand::Comment => self.comment,
             MapsCommand::Inline => self.inline,
             MapsCommand::Outline => self.outline,
-            MapsCommand::Rename => self.rename,
-            MapsCommand::Contents => self.contents,
-            MapsCommand::DebugId => self.debug_id,
         }
     }
 }

@@ -105,12 +105,7 @@ fn holds<D: Disk>(alloc: Global, disk: &D, path: &str, content: &[u8]) -> io::Re
 }
 
 /// Writes a file unless one is there.
-fn write_once<D: Disk>(
-    alloc: Global,
-    disk: &D,
-    path: &str,
-    content: &[u8],
-) -> io::Result<Fate> {
+fn write_once<D: Disk>(alloc: Global, disk: &D, path: &str, content: &[u8]) -> io::Result<Fate> {
     match write_new(disk, path, content) {
         Ok(()) => Ok(Fate::Written),
         Err(error) if error.kind() == ErrorKind::AlreadyExists => {

@@ -93,7 +93,15 @@ fn write_file<E: Eprint + AllocGlobal, D: Disk>(
     let Some(file) = file_at(host, folder, path)? else {
         return Ok(None);
     };
-    match put_file(host.alloc(), host.disk, folder, path, file.as_str(), content, made) {
+    match put_file(
+        host.alloc(),
+        host.disk,
+        folder,
+        path,
+        file.as_str(),
+        content,
+        made,
+    ) {
         Ok(fate) => {
             if fate == Fate::Differs {
                 host.say_of(file.as_str(), "it has other bytes, and stays as it is");

@@ -203,7 +203,7 @@ fn gather_target<E: Eprint + AllocGlobal, D: Disk>(
     let found = match found(host.alloc(), host.disk, target) {
         Ok(Some(found)) => found,
         Ok(None) => {
-            host.say_of(target.file.as_str(), "it names no map that is here");
+            host.say_of(target.file.as_str(), "names no map that is there");
             return Ok(1);
         }
         Err(verdict) => return refuse(host, target.file.as_str(), verdict),

@@ -2,13 +2,14 @@
 //! is read by `smap_command_line`, what a rewrite drops and changes is told by `smap_differences`, and what
 //! is repaired by `smap_repair`; maps are read by `smap_record` and written by `smap_canon`, as by `smap`
 //! itself. One map is looked at after the other, so that one is in memory at a time. `lint` is a run of
-//! `smap_lint_run`.
+//! `smap_lint_run`, and what changes scripts one of `smap_script_run`.
 //!
 //! What becomes of a source map that `smap-maps` looks at, and what is said of that: a map's bytes are judged
 //! ([`judged`]), and an [`Outcome`] is a line of JSON ([`json_line`]) or a remark ([`remark`]) under the name
 //! of the map's file ([`said_name`]). A [`Tally`] counts maps by their statuses.
 #![tactic(auto)]
 
+mod changing;
 mod deciding;
 mod extracting;
 mod forms;

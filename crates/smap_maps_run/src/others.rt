@@ -1,9 +1,11 @@
 //! The commands that don't look at maps one after another.
+use crate::changing::{comment_task, scripts_asked};
 use crate::extracting::extract;
 use crate::linting::lint_asked;
 use smap_command_line::MapsCommand;
 use smap_command_line::maps::MapsWords;
 use smap_lint_run::lint;
+use smap_script_run::{ScriptTask, edit_scripts};
 use smap_system::{Disk, Host, Stop, Watched};
 use std::io::Write;
 
@@ -18,76 +20,34 @@ fn lint_build<E: Eprint + AllocGlobal, D: Disk, W: Write>(
     Ok(0)
 }
 
-/// Says what differs between two maps.
-fn diff<E: Eprint + AllocGlobal, D: Disk, W: Write>(
-    host: &Host<'_, E, D>,
-    _asked: &MapsWords<'_>,
-    _writer: &mut Watched<W>,
-) -> Result<u8, Stop> {
-    Err(host.fail(2, "not yet"))
-}
-
-/// Composes the maps of folders.
-fn compose<E: Eprint + AllocGlobal, D: Disk, W: Write>(
-    host: &Host<'_, E, D>,
-    _asked: &MapsWords<'_>,
-    _writer: &mut Watched<W>,
-) -> Result<u8, Stop> {
-    Err(host.fail(2, "not yet"))
-}
-
 /// Sets or removes the comments of scripts.
 fn comment<E: Eprint + AllocGlobal, D: Disk, W: Write>(
     host: &Host<'_, E, D>,
-    _asked: &MapsWords<'_>,
-    _writer: &mut Watched<W>,
+    asked: &MapsWords<'_>,
+    writer: &mut Watched<W>,
 ) -> Result<u8, Stop> {
-    Err(host.fail(2, "not yet"))
+    let asked = scripts_asked(host.alloc(), asked, comment_task(asked))?;
+    edit_scripts(host, &asked, writer)
 }
 
 /// Puts maps into their scripts.
 fn inline<E: Eprint + AllocGlobal, D: Disk, W: Write>(
     host: &Host<'_, E, D>,
-    _asked: &MapsWords<'_>,
-    _writer: &mut Watched<W>,
+    asked: &MapsWords<'_>,
+    writer: &mut Watched<W>,
 ) -> Result<u8, Stop> {
-    Err(host.fail(2, "not yet"))
+    let asked = scripts_asked(host.alloc(), asked, ScriptTask::Inline)?;
+    edit_scripts(host, &asked, writer)
 }
 
 /// Puts maps within scripts into files.
 fn outline<E: Eprint + AllocGlobal, D: Disk, W: Write>(
     host: &Host<'_, E, D>,
-    _asked: &MapsWords<'_>,
-    _writer: &mut Watched<W>,
+    asked: &MapsWords<'_>,
+    writer: &mut Watched<W>,
 ) -> Result<u8, Stop> {
-    Err(host.fail(2, "not yet"))
-}
-
-/// Renames the sources of maps.
-fn rename<E: Eprint + AllocGlobal, D: Disk, W: Write>(
-    host: &Host<'_, E, D>,
-    _asked: &MapsWords<'_>,
-    _writer: &mut Watched<W>,
-) -> Result<u8, Stop> {
-    Err(host.fail(2, "not yet"))
-}
-
-/// Adds or removes the contents of sources.
-fn contents<E: Eprint + AllocGlobal, D: Disk, W: Write>(
-    host: &Host<'_, E, D>,
-    _asked: &MapsWords<'_>,
-    _writer: &mut Watched<W>,
-) -> Result<u8, Stop> {
-    Err(host.fail(2, "not yet"))
-}
-
-/// Gives scripts and their maps the same debug ID.
-fn debug_id<E: Eprint + AllocGlobal, D: Disk, W: Write>(
-    host: &Host<'_, E, D>,
-    _asked: &MapsWords<'_>,
-    _writer: &mut Watched<W>,
-) -> Result<u8, Stop> {
-    Err(host.fail(2, "not yet"))
+    let asked = scripts_asked(host.alloc(), asked, ScriptTask::Outline)?;
+    edit_scripts(host, &asked, writer)
 }
 
 /// Does what a command says that doesn't look at maps one after another. Answers the status of a run that
@@ -99,14 +59,9 @@ pub(crate) fn do_other<E: Eprint + AllocGlobal, D: Disk, W: Write>(
 ) -> Result<u8, Stop> {
     match asked.command {
         MapsCommand::Extract => extract(host, asked, writer),
-        MapsCommand::Diff => diff(host, asked, writer),
-        MapsCommand::Compose => compose(host, asked, writer),
         MapsCommand::Comment => comment(host, asked, writer),
         MapsCommand::Inline => inline(host, asked, writer),
         MapsCommand::Outline => outline(host, asked, writer),
-        MapsCommand::Rename => rename(host, asked, writer),
-        MapsCommand::Contents => contents(host, asked, writer),
-        MapsCommand::DebugId => debug_id(host, asked, writer),
         _ => lint_build(host, asked, writer),
     }
 }

@@ -21,22 +21,10 @@ pub enum Clash {
     DropAlone,
     /// `--set` and `--remove` exclude each other.
     SetRemove,
-    /// `--add` and `--remove` exclude each other.
-    AddRemove,
-    /// `--source-prefix` and `--strip-common` exclude each other.
-    PrefixCommon,
-    /// `comment` has neither `--set` nor `--remove`.
-    NoComment,
-    /// `contents` has neither `--add` nor `--remove`.
-    NoContents,
-    /// `rename` has neither `--source-prefix` nor `--strip-common`.
-    NoRenaming,
     /// `extract` has no `--output`.
     NoOutput,
-    /// `lint` has a format of `diff` alone.
-    LintFormat,
-    /// `diff` has a format of `lint` alone.
-    DiffFormat,
+    /// `comment` has neither `--set` nor `--remove`.
+    NoComment,
 }
 
 /// Whether an option is given.
@@ -104,33 +92,8 @@ fn excluded_ways(options: &Options<'_>) -> Option<Clash>
 {
     if has_value(options, "set") && options.has("remove") {
         Some(Clash::SetRemove)
-    } else if options.has("add") && options.has("remove") {
-        Some(Clash::AddRemove)
-    } else if has_value(options, "source-prefix") && options.has("strip-common") {
-        Some(Clash::PrefixCommon)
     } else {
         None
-    }
-}
-
-/// Whether a command writes this form.
-fn writes(command: MapsCommand, format: &str) -> bool
-    ensures { result ≡ spec.writes command format.now }
-{
-    match command {
-        MapsCommand::Lint => format != "markdown",
-        MapsCommand::Diff => format == "text" || format == "json" || format == "markdown",
-        _ => true,
-    }
-}
-
-/// Whether no form is asked for that the command doesn't write.
-fn writes_form(options: &Options<'_>, command: MapsCommand) -> bool
-    ensures { result ≡ spec.writes_form (rows_in options.now) command }
-{
-    match options.text("format") {
-        Some(format) => writes(command, format),
-        None => true,
     }
 }
 
@@ -146,21 +109,11 @@ fn lacking(options: &Options<'_>, command: MapsCommand) -> Option<Clash>
     ensures { result ≡ spec.lacking (rows_in options.now) command }
 {
     match command {
+        MapsCommand::Extract => unless(has_value(options, "output"), Clash::NoOutput),
         MapsCommand::Comment => {
             let is_said = has_value(options, "set") || options.has("remove");
             unless(is_said, Clash::NoComment)
         }
-        MapsCommand::Contents => {
-            let is_said = options.has("add") || options.has("remove");
-            unless(is_said, Clash::NoContents)
-        }
-        MapsCommand::Rename => {
-            let is_said = has_value(options, "source-prefix") || options.has("strip-common");
-            unless(is_said, Clash::NoRenaming)
-        }
-        MapsCommand::Extract => unless(has_value(options, "output"), Clash::NoOutput),
-        MapsCommand::Lint => unless(writes_form(options, command), Clash::LintFormat),
-        MapsCommand::Diff => unless(writes_form(options, command), Clash::DiffFormat),
         _ => None,
     }
 }

@@ -4,7 +4,7 @@ use crate::rows::{
 };
 
 /// The options, in the order in which the help lists them and they are looked at.
-pub const OPTIONS: [OptionRow; 21] = [
+pub const OPTIONS: [OptionRow; 14] = [
     OptionOf {
         name: "base",
         value: Value::Text,
@@ -47,13 +47,9 @@ pub const OPTIONS: [OptionRow; 21] = [
             tidy: true,
             flatten: true,
             repair: true,
-            compose: true,
             comment: true,
             inline: true,
             outline: true,
-            rename: true,
-            contents: true,
-            debug_id: true,
             ..NO_COMMANDS
         },
         help: "Rewrite the files that would change, unless a map would lose a member",
@@ -81,7 +77,6 @@ pub const OPTIONS: [OptionRow; 21] = [
         commands: Commands {
             tidy: true,
             flatten: true,
-            compose: true,
             ..NO_COMMANDS
         },
         help: "Show which members would change",
@@ -95,7 +90,6 @@ pub const OPTIONS: [OptionRow; 21] = [
             check: true,
             tidy: true,
             flatten: true,
-            compose: true,
             ..NO_COMMANDS
         },
         help: "Write a line of JSON for each map",
@@ -108,14 +102,12 @@ pub const OPTIONS: [OptionRow; 21] = [
         name: "format",
         value: Value::Format,
         value_name: "FORMAT",
-        expected: "text, gnu, github, sarif, junit, json or markdown",
+        expected: "text, gnu, github, sarif, junit or json",
         commands: Commands {
             lint: true,
-            diff: true,
             ..NO_COMMANDS
         },
-        help: "Write findings as text, gnu, github, sarif, junit or json; differences as text, json or \
-               markdown",
+        help: "Write findings as text, gnu, github, sarif, junit or json",
         ..FLAG
     },
     OptionOf {
@@ -158,83 +150,9 @@ pub const OPTIONS: [OptionRow; 21] = [
         name: "remove",
         commands: Commands {
             comment: true,
-            contents: true,
             ..NO_COMMANDS
         },
-        help: "Remove the comments, or the contents of sources",
-        ..FLAG
-    },
-    OptionOf {
-        name: "add",
-        commands: Commands {
-            contents: true,
-            ..NO_COMMANDS
-        },
-        help: "Add contents of sources, from the files that the sources name",
-        ..FLAG
-    },
-    OptionOf {
-        name: "only",
-        value: Value::Text,
-        value_name: "PATTERN",
-        repeats: true,
-        commands: Commands {
-            contents: true,
-            ..NO_COMMANDS
-        },
-        help: "Leave alone sources that fit no PATTERN",
-        ..FLAG
-    },
-    OptionOf {
-        name: "except",
-        value: Value::Text,
-        value_name: "PATTERN",
-        repeats: true,
-        commands: Commands {
-            contents: true,
-            ..NO_COMMANDS
-        },
-        help: "Leave alone sources that fit a PATTERN",
-        ..FLAG
-    },
-    OptionOf {
-        name: "source-prefix",
-        value: Value::Pair,
-        value_name: "FROM=TO",
-        expected: "FROM=TO",
-        repeats: true,
-        commands: Commands {
-            rename: true,
-            ..NO_COMMANDS
-        },
-        help: "Write TO for FROM at the start of a source's URL. Of several the first that fits counts",
-        ..FLAG
-    },
-    OptionOf {
-        name: "strip-common",
-        commands: Commands {
-            rename: true,
-            ..NO_COMMANDS
-        },
-        help: "Drop the folders that all sources of a map have in common",
-        ..FLAG
-    },
-    OptionOf {
-        name: "thin",
-        commands: Commands {
-            compose: true,
-            ..NO_COMMANDS
-        },
-        help: "Leave out mappings that change no position's original",
-        ..FLAG
-    },
-    OptionOf {
-        name: "used",
-        commands: Commands {
-            compose: true,
-            ..NO_COMMANDS
-        },
-        help: "Leave out sources that no mapping has",
+        help: "Remove the comments of scripts that name their maps",
         ..FLAG
     },
     OptionOf {

@@ -73,7 +73,7 @@ pub enum WordFault<'a> {
     Foreign(MapsCommand, OptionRow),
     /// Options don't go together.
     Clashing(Clash),
-    /// The command has no path, or `diff` not two.
+    /// The command has no path.
     NoPath(MapsCommand),
 }
 
@@ -135,14 +135,9 @@ fn command_in(name: &str) -> Option<MapsCommand>
         "lint" => Some(MapsCommand::Lint),
         "repair" => Some(MapsCommand::Repair),
         "extract" => Some(MapsCommand::Extract),
-        "diff" => Some(MapsCommand::Diff),
-        "compose" => Some(MapsCommand::Compose),
         "comment" => Some(MapsCommand::Comment),
         "inline" => Some(MapsCommand::Inline),
         "outline" => Some(MapsCommand::Outline),
-        "rename" => Some(MapsCommand::Rename),
-        "contents" => Some(MapsCommand::Contents),
-        "debug-id" => Some(MapsCommand::DebugId),
         _ => None,
     }
 }
@@ -174,16 +169,6 @@ fn check_options<'a>(options: &Options<'_>, command: MapsCommand) -> Result<(), 
     }
 }
 
-/// Whether what is behind the command is paths enough.
-fn has_paths(texts: &[&str], command: MapsCommand) -> bool
-    ensures { result ≡ spec.has_paths command texts.now }
-{
-    match command {
-        MapsCommand::Diff => texts.len() == 3,
-        _ => texts.len() > 1,
-    }
-}
-
 /// The paths: what is behind the command.
 fn paths_in<'a>(
     alloc: Global,
@@ -192,10 +177,10 @@ fn paths_in<'a>(
 ) -> Result<Vec<&'a str>, WordFault<'a>>
     ensures paths { IfOk result (λ paths. map (λ s. s.now) paths.items
         ≡ drop 1 (map (λ s. s.now) texts.now)) }
-    ensures some { OnOk result (spec.has_paths command texts.now ≡ true) }
+    ensures some { OnOk result (nat_lt 1 (length texts.now) ≡ true) }
     ensures fault { IfErr result (IsPathFault texts.now command) }
 {
-    if !has_paths(texts, command) {
+    if texts.len() < 2 {
         return Err(WordFault::NoPath(command));
     }
     Ok(Vec::from_slice(alloc, &texts[1..])?)
