@@ -24,6 +24,7 @@ smap-maps tidy: --base --absolute --relative --write --drop --diff --json --url-
 smap-maps flatten: --base --write --drop --diff --json --url-bytes --version --help
 smap-maps lint: --format --rule --min-mapped --url-bytes --version --help
 smap-maps repair: --base --write --url-bytes --version --help
+smap-maps extract: --output --url-bytes --version --help
 smap-maps comment: --write --set --remove --url-bytes --version --help
 smap-maps inline: --write --url-bytes --version --help
 smap-maps outline: --write --url-bytes --version --help
@@ -43,6 +44,8 @@ smap-maps --format: text gnu github sarif junit json
 smap-maps --rule:
 smap-maps --min-mapped:
 smap-maps --set:
+smap-maps -o: FILE
+smap-maps --output: FILE
 smap-maps --url-bytes:
 smap-view --base:
 smap-view --url-bytes:

@@ -170,6 +170,7 @@ function callsOver(system, words, memory) {
     }),
     fchown: (fd, user, group) => status(() => system.changeOwner(fd, ownerOf(user), ownerOf(group))),
     fchmod: (fd, mode) => status(() => system.changeMode(fd, mode)),
+    mkdir: (path, mode) => status(() => system.makeFolder(memory.text(path), mode)),
     unlink: path => status(() => system.remove(memory.text(path))),
     rename: (from, to) => status(() => system.rename(memory.text(from), memory.text(to))),
     clock_gettime(clock, to) {

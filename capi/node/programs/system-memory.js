@@ -245,6 +245,13 @@ class MemorySystem {
     return [...kids].map(([name, node]) => [encode(name), node.kids ? 4 : 8]);
   }
 
+  makeFolder(bytes) {
+    const path = this.absolute(bytes);
+    if (this.has(path)) throw fault('EEXIST');
+    const { folder, name } = this.above(path);
+    folder.kids.set(name, newFolder());
+  }
+
   // ---- what is said of them
 
   about(node, mode = node.kids ? FOLDER_MODE : BigInt(0o100000 | node.mode)) {

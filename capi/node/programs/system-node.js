@@ -108,6 +108,7 @@ function nodeSystem(program, { files = fs, platform = process.platform } = {}) {
     readLink: path => slashed(files.readlinkSync(own(path), 'buffer')),
     changeOwner: (fd, user, group) => files.fchownSync(fd, user, group),
     changeMode: (fd, mode) => files.fchmodSync(fd, mode),
+    makeFolder: (path, mode) => files.mkdirSync(own(path), { mode }),
     remove: path => files.unlinkSync(own(path)),
     rename: (path, to) => files.renameSync(own(path), own(to)),
     now: clock => (clock === 0 ? BigInt(Date.now()) * 1_000_000n : process.hrtime.bigint()),

@@ -185,6 +185,10 @@ for (const [where, make] of [['files of Node', inNode], ['files in memory', inMe
     assert.deepEqual(program.list('..', 4096, below), all);
     assert.equal(program.stat('b.txt', 0, below).size, 1);
     assert.equal(program.stat('', EMPTY_PATH, below).mode & 0o170000, 0o040000);
+    assert.equal(program.ask('mkdir', program.text('below/new'), 0o777), 0);
+    assert.equal(program.ask('mkdir', program.text('below/new'), 0o777), 'File exists');
+    assert.equal(program.ask('mkdir', program.text('none/new'), 0o777), 'No such file or directory');
+    assert.deepEqual(program.list('below').sort(), [['b.txt', 8], ['new', 4]]);
   });
 
   both('what stat says', program => {

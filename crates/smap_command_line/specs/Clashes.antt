@@ -9,7 +9,7 @@ use Rattle.smap_command_line.specs.Lookups.{is_set}
 use Rattle.smap_command_line.specs.Rows.{OptionRow, is_command_of, is_flag}
 use Rattle.smap_command_line.specs.declared.maps.clashes.Clash.{Clash}
 use Rattle.smap_command_line.specs.declared.maps.clashes.Clash.TheVariants.{DropAlone, JsonDiff, NoComment}
-use Rattle.smap_command_line.specs.declared.maps.clashes.Clash.TheVariants.{RelativeAbsolute}
+use Rattle.smap_command_line.specs.declared.maps.clashes.Clash.TheVariants.{NoOutput, RelativeAbsolute}
 use Rattle.smap_command_line.specs.declared.maps.clashes.Clash.TheVariants.{SetRemove, WriteDiff}
 use Rattle.smap_command_line.specs.declared.rows.MapsCommand.{MapsCommand}
 use Rattle.smap_command_line.specs.declared.rows.MapsCommand.TheVariants as command
@@ -48,6 +48,7 @@ unless test why = if test then None else Some why
 abbrev pub lacking : List Row → MapsCommand → Option Clash
 lacking rows command.Comment =
     unless (has_value (codes "set") rows || is_set (codes "remove") rows) NoComment
+lacking rows command.Extract = unless (has_value (codes "output") rows) NoOutput
 lacking rows k = None
 
 abbrev pub clash : List Row → MapsCommand → Option Clash

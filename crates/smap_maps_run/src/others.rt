@@ -1,5 +1,6 @@
 //! The commands that don't look at maps one after another.
 use crate::changing::{comment_task, scripts_asked};
+use crate::extracting::extract;
 use crate::linting::lint_asked;
 use smap_command_line::MapsCommand;
 use smap_command_line::maps::MapsWords;
@@ -57,6 +58,7 @@ pub(crate) fn do_other<E: Eprint + AllocGlobal, D: Disk, W: Write>(
     writer: &mut Watched<W>,
 ) -> Result<u8, Stop> {
     match asked.command {
+        MapsCommand::Extract => extract(host, asked, writer),
         MapsCommand::Comment => comment(host, asked, writer),
         MapsCommand::Inline => inline(host, asked, writer),
         MapsCommand::Outline => outline(host, asked, writer),

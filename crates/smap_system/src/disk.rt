@@ -126,6 +126,13 @@ pub trait Disk {
     /// Those of `create_new`.
     fn create_private(&self, path: &str) -> io::Result<Self::Writer>;
 
+    /// A folder that isn't there yet: whatever has this name, a link too, is refused.
+    ///
+    /// # Errors
+    ///
+    /// `AlreadyExists`, or the system's.
+    fn create_folder(&self, path: &str) -> io::Result<()>;
+
     /// The path that a link leads to; `None` where the path ends in no link.
     ///
     /// # Errors

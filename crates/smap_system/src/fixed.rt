@@ -153,6 +153,10 @@ impl<'a> Disk for FixedDisk<'a> {
         refused()
     }
 
+    fn create_folder(&self, _path: &str) -> io::Result<()> {
+        refused()
+    }
+
     fn link(&self, _alloc: Global, _path: &str) -> io::Result<Option<String>> {
         Ok(None)
     }

@@ -169,6 +169,10 @@ where
             .open(self.rt, path)
     }
 
+    fn create_folder(&self, path: &str) -> io::Result<()> {
+        fs::create_dir(self.rt, path)
+    }
+
     fn link(&self, alloc: Global, path: &str) -> io::Result<Option<String>> {
         let metadata = match fs::symlink_metadata(self.rt, path) {
             Ok(metadata) => metadata,

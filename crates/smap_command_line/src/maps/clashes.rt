@@ -21,6 +21,8 @@ pub enum Clash {
     DropAlone,
     /// `--set` and `--remove` exclude each other.
     SetRemove,
+    /// `extract` has no `--output`.
+    NoOutput,
     /// `comment` has neither `--set` nor `--remove`.
     NoComment,
 }
@@ -107,6 +109,7 @@ fn lacking(options: &Options<'_>, command: MapsCommand) -> Option<Clash>
     ensures { result ≡ spec.lacking (rows_in options.now) command }
 {
     match command {
+        MapsCommand::Extract => unless(has_value(options, "output"), Clash::NoOutput),
         MapsCommand::Comment => {
             let is_said = has_value(options, "set") || options.has("remove");
             unless(is_said, Clash::NoComment)

@@ -7,6 +7,7 @@ Usage: smap-maps check [--base URL] [--json] PATH...
        smap-maps flatten [--base URL] [--json] [--write [--drop] | --diff] PATH...
        smap-maps lint [--format FORMAT] [--rule NAME=LEVEL]... [--min-mapped N] FOLDER...
        smap-maps repair [--base URL] [--write] PATH...
+       smap-maps extract -o DIR PATH...
        smap-maps comment (--set URL | --remove) [--write] SCRIPT...
        smap-maps inline|outline [--write] SCRIPT...
 
@@ -17,6 +18,7 @@ Works on source maps: files, and each *.map in folders and below them; some comm
   flatten     Name each map that isn't a flat map as smap writes it
   lint        Say why maps don't work: of each script and each map of a build, what is wrong
   repair      Name each refused map that a few bytes void, with what would mend it
+  extract     Write the contents of sources that maps hold as files
   comment     Set or remove the comment by which a script names its map
   inline      Put the map of a script into its comment
   outline     Put the map within a script into a file next to it
@@ -37,6 +39,8 @@ Works on source maps: files, and each *.map in folders and below them; some comm
   --min-mapped N  The least part of a script, in percent, that has to be mapped (lint)
   --set URL       Set the comment of each script that names its map to URL (comment)
   --remove        Remove the comments of scripts that name their maps (comment)
+  -o, --output DIR
+                  Write the files of sources into DIR (extract)
   --url-bytes N   Refuse a map if the URLs of its sources take more than N bytes (default 67108864)
   -V, --version   Print the version
   -h, --help      Print help

@@ -13,6 +13,7 @@ fn command_text(command: MapsCommand) -> &'static str {
         MapsCommand::Flatten => "flatten",
         MapsCommand::Lint => "lint",
         MapsCommand::Repair => "repair",
+        MapsCommand::Extract => "extract",
         MapsCommand::Comment => "comment",
         MapsCommand::Inline => "inline",
         MapsCommand::Outline => "outline",
@@ -26,6 +27,7 @@ fn clash_text(clash: Clash) -> &'static str {
         Clash::JsonDiff => "--json and --diff at once",
         Clash::DropAlone => "--drop needs --write",
         Clash::SetRemove => "--set and --remove at once",
+        Clash::NoOutput => "extract needs --output",
         Clash::NoComment => "comment needs --set or --remove",
     }
 }

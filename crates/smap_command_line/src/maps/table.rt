@@ -4,7 +4,7 @@ use crate::rows::{
 };
 
 /// The options, in the order in which the help lists them and they are looked at.
-pub const OPTIONS: [OptionRow; 13] = [
+pub const OPTIONS: [OptionRow; 14] = [
     OptionOf {
         name: "base",
         value: Value::Text,
@@ -153,6 +153,19 @@ pub const OPTIONS: [OptionRow; 13] = [
             ..NO_COMMANDS
         },
         help: "Remove the comments of scripts that name their maps",
+        ..FLAG
+    },
+    OptionOf {
+        name: "output",
+        short: Some('o'),
+        value: Value::File,
+        value_name: "DIR",
+        expected: "the name of a folder",
+        commands: Commands {
+            extract: true,
+            ..NO_COMMANDS
+        },
+        help: "Write the files of sources into DIR",
         ..FLAG
     },
     OptionOf {
