@@ -110,19 +110,27 @@ fn is_place(name: &[u8], text: &[u8], place: Place) -> bool
     is_comment(comment) && link_in(name, comment) == link_in(name, text)
 }
 
+/// Whether a URL has a quote, as what is read out of a string has.
+fn has_quote(url: &[u8]) -> bool {
+    url.iter().any(|b| *b == b'"' || *b == b'\'' || *b == b'`')
+}
+
 /// Where the comment is that names a text's map; at its end, and empty, if it names none.
 ///
 /// # Errors
 ///
-/// `Unclear` if it isn't found.
+/// `Unclear` if it isn't found, or may be within a string.
 pub(crate) fn place_of(name: &[u8], text: &[u8]) -> Result<Place, CommentFault>
     ensures { IfOk result (λ p. IsPlace name.now text.now p.at p.size) }
 {
-    if link_in(name, text).is_none() {
+    let Some(url) = link_in(name, text) else {
         return Ok(Place {
             at: text.len(),
             size: 0,
         });
+    };
+    if has_quote(url) {
+        return Err(CommentFault::Unclear);
     }
     let Some(at) = comment_start(name, text) else {
         return Err(CommentFault::Unclear);
