@@ -8,7 +8,7 @@ use crate::values::parted;
 use std::alloc::{AllocError, Global};
 
 /// A value `KEY=TEXT`.
-#[derive(Clone, Copy, Debug, PartialEq, Eq)]
+#[derive(Clone, Copy)]
 pub struct Pair<'a> {
     /// What stands before the first `=` of the word; never empty.
     pub key: &'a str,

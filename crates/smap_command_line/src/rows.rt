@@ -3,8 +3,10 @@
 ghost use Rattle.std.specs.Prelude.{◌≡◌};
 ghost use Rattle.smap_command_line.specs.Rows as spec;
 
+use std::alloc::AllocError;
+
 /// A command of `smap-maps`.
-#[derive(Clone, Copy, Debug, PartialEq, Eq)]
+#[derive(Clone, Copy, PartialEq, Eq)]
 pub enum MapsCommand {
     Check,
     Tidy,
@@ -63,7 +65,7 @@ pub const SIZES: [&str; 3] = ["table", "tsv", "json"];
 
 /// An option, with texts of this type. (A contract can name a constant with a `&'static str` in it only if
 /// that is a type's argument.)
-#[derive(Clone, Copy)]
+#[derive(Copy)]
 pub struct OptionOf<T> {
     /// The name by which it is looked up.
     pub name: T,
@@ -85,6 +87,13 @@ pub struct OptionOf<T> {
     pub help: T,
     /// What else the manual page says of it.
     pub details: T,
+}
+
+// By hand: the derived one would copy field by field, which takes long to prove.
+impl<T: Copy> Clone for OptionOf<T> {
+    fn clone(&self) -> Result<Self, AllocError> {
+        Ok(*self)
+    }
 }
 
 /// An option of a program.

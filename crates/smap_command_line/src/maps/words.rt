@@ -18,7 +18,7 @@ use std::alloc::{AllocError, Global};
 const USAGE: &str = "smap-maps COMMAND [OPTION]... PATH...";
 
 /// What becomes of a map that would change.
-#[derive(Clone, Copy, Debug, PartialEq, Eq)]
+#[derive(Clone, Copy, PartialEq, Eq)]
 pub enum Rewrite {
     /// It is named, or has a line of JSON, and stays as it is.
     Tell {

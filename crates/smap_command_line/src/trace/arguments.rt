@@ -7,7 +7,7 @@ use crate::values::parted;
 use smap_link::is_path;
 
 /// An argument, as far as its text says what it is.
-#[derive(Clone, Copy, Debug, PartialEq, Eq)]
+#[derive(Clone, Copy)]
 pub enum Argument<'a> {
     /// `URL=FILE[=BASE]` or `URL/=FOLDER/`: a text with a `=`, with something on both sides of the first.
     Place(&'a str),
@@ -17,7 +17,7 @@ pub enum Argument<'a> {
 }
 
 /// What is wrong with an argument, whatever files there are.
-#[derive(Clone, Copy, Debug, PartialEq, Eq)]
+#[derive(Clone, Copy)]
 pub enum ArgumentFault {
     /// It is empty.
     Empty,

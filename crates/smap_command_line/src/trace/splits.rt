@@ -22,7 +22,7 @@ pub struct Split<'a> {
 }
 
 /// What is there under the name of a file.
-#[derive(Clone, Copy, Debug, PartialEq, Eq)]
+#[derive(Clone, Copy, PartialEq, Eq)]
 pub enum Kind {
     /// A file, or a pipe.
     File,

@@ -14,7 +14,7 @@ use std::alloc::{AllocError, Global};
 const USAGE: &str = "smap-view [OPTION]... MAP|SCRIPT|FOLDER [SCRIPT]";
 
 /// How the sizes of sources are written.
-#[derive(Clone, Copy, Debug, PartialEq, Eq)]
+#[derive(Clone, Copy, PartialEq, Eq)]
 pub enum SizesForm {
     /// Columns for a reader.
     Table,
