@@ -320,8 +320,8 @@ fn itself_ended(
     Ok(ended(alloc, loaded, ends)?)
 }
 
-/// What became of what a file holds for a map: it is ended as the script next to it is; a script is followed to
-/// its map, or left out.
+/// What became of what a file holds for a map: it is ended as the script next to it is; a script is followed
+/// to its map, or left out.
 fn content_loaded<E: Eprint + AllocGlobal, D: Disk>(
     host: &Host<'_, E, D>,
     how: How,

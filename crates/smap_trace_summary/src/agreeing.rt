@@ -77,7 +77,10 @@ pub(crate) fn cause_of(all: &[Agreement], file: usize) -> Cause {
     if all.iter().any(|other| other.segments > own) {
         return Cause::OfFewer;
     }
-    if all.iter().any(|other| other.segments == own && other.file != file) {
+    if all
+        .iter()
+        .any(|other| other.segments == own && other.file != file)
+    {
         return Cause::OfEqual;
     }
     Cause::Most

@@ -57,7 +57,8 @@ const QUIET: How = How {
 
 fn reason(stay: Stay) -> &'static str {
     match stay {
-        Stay::NoPosition => "there is no script with a line and a column, as https://example.org/app.js:1:20",
+        Stay::NoPosition =>
+            "there is no script with a line and a column, as https://example.org/app.js:1:20",
         Stay::NoFile => "no map is given for this script",
         Stay::NotByEnd => {
             "a name that is neither a URL nor a path goes by its end in frames alone, and never with a colon"
@@ -134,10 +135,18 @@ fn add_lookup(
         None => false,
     };
     let Some(token) = token else {
-        return Ok(if is_past_end { Stay::PastEnd } else { Stay::NoMapping });
+        return Ok(if is_past_end {
+            Stay::PastEnd
+        } else {
+            Stay::NoMapping
+        });
     };
     let Some(original) = token.original else {
-        return Ok(if is_past_end { Stay::PastEnd } else { Stay::NoOriginal });
+        return Ok(if is_past_end {
+            Stay::PastEnd
+        } else {
+            Stay::NoOriginal
+        });
     };
     add_source(alloc, &original, steps)?;
     Ok(Stay::NoUrl)

@@ -113,7 +113,7 @@ fn cause_words(cause: Cause) -> &'static str {
     match cause {
         Cause::Most => "which agrees in most segments",
         Cause::OfEqual => {
-            "which of those that agree in as many lies nearest, or is the map, or a copy of the others"
+            "which counts of those that agree in as many: the nearest, a map before a script, one of copies"
         }
         Cause::OfFewer => "since the scripts that agree in more have no map",
     }
@@ -146,7 +146,10 @@ pub(crate) fn choice_words(
 }
 
 fn given_words(alloc: Global, place: &Place) -> Result<String, AllocError> {
-    let (file, script) = (printable(alloc, &place.file)?, printable(alloc, &place.script)?);
+    let (file, script) = (
+        printable(alloc, &place.file)?,
+        printable(alloc, &place.script)?,
+    );
     let (file, script) = (file.as_str(), script.as_str());
     format!(in alloc; "{file}, which is given for {script}")
 }
@@ -252,7 +255,11 @@ fn end_words(alloc: Global, widths: &[usize], spot: Spot<'_>) -> Result<String, 
 
 /// Whether a position is past the end of a script, or of its line.
 pub(crate) fn is_past(widths: &[usize], spot: Spot<'_>) -> bool {
-    !is_within(widths, spot.line.saturating_sub(1), spot.column.saturating_sub(1))
+    !is_within(
+        widths,
+        spot.line.saturating_sub(1),
+        spot.column.saturating_sub(1),
+    )
 }
 
 /// Adds where the script ends, if its map ends there.
@@ -303,7 +310,14 @@ pub(crate) fn add_mapping(
 /// The original of a position, in words.
 fn source_words(alloc: Global, original: &OriginalView<'_>) -> Result<String, AllocError> {
     let (line, column) = (u64::from(original.line) + 1, u64::from(original.column) + 1);
-    let url = printable(alloc, original.source.url.unwrap_or("one without a URL").as_bytes())?;
+    let url = printable(
+        alloc,
+        original
+            .source
+            .url
+            .unwrap_or("one without a URL")
+            .as_bytes(),
+    )?;
     let url = url.as_str();
     let ignored = if original.source.ignored {
         ", in the ignore list"
