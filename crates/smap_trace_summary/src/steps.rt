@@ -1,4 +1,7 @@
 //! The words of an explanation, step by step.
+ghost use Rattle.std.specs.Prelude.{◌≡◌, ◌++◌, ◌∷◌, [], OnOk};
+ghost use Rattle.smap_system.specs.Printing.{printable as printed};
+
 use crate::agreeing::{Agreement, Cause, cause_of};
 use crate::spots::Spot;
 use smap_link::normal_form;
@@ -16,8 +19,11 @@ const MOST_FILES: usize = 5;
 /// What stands before the words of a step, or of a further line of one.
 const FURTHER: &str = "         ";
 
-/// Adds a line: what it is about, and words.
-pub(crate) fn add_step(steps: &mut Vec<u8>, label: &str, words: &str) -> Result<(), AllocError> {
+/// Adds a line: what it is about, and words, as a terminal may have them.
+pub(crate) fn add_step(steps: &mut Vec<u8>, label: &str, words: &str) -> Result<(), AllocError>
+    ensures { OnOk result (steps.new.items ≡ steps.old.items ++ label.now ++ printed words.now ++ 10 ∷ []) }
+{
+    let words = printable(*steps.allocator(), words.as_bytes())?;
     steps.extend_from_slice(label.as_bytes())?;
     steps.extend_from_slice(words.as_bytes())?;
     steps.extend_from_slice(b"\n")
