@@ -139,16 +139,22 @@ pub some_words : (held : Held) (job : Job) (worst : ℕ) (kind : InputKind)
 some_words held job worst kind left before after some traced =
     by_words held job worst job.wanted.positions.words.items kind left before after some traced
 
+true_false : (b : Bool) → b ≡ true → b ≡ false → ⊥
+true_false b is off = cc
+
+some_none : {A : Type 0} (found : Option A) (a : A) → found ≡ Some a → found ≡ None → ⊥
+some_none found a is none = cc
+
 -- a list is no translation
 pub not_listed : {E : Type 0} (job : Job) (P : ℕ → Type 0) (result : Result ℕ E) → job.list ≡ true
     → IfOk result (λ status. IsTranslating job → P status)
-not_listed job P (Ok status) is = λ off. let list = off.list in absurd cc
+not_listed job P (Ok status) is = λ off. absurd (true_false job.list is off.list)
 not_listed job P (Err e) is = tt
 
 -- nor is an explanation
 pub not_explained : {E : Type 0} (job : Job) (p : Bor (List ℕ)) (P : ℕ → Type 0) (result : Result ℕ E)
     → job.explain ≡ Some p → IfOk result (λ status. IsTranslating job → P status)
-not_explained job p P (Ok status) is = λ off. let none = off.explain in absurd cc
+not_explained job p P (Ok status) is = λ off. absurd (some_none job.explain p is off.explain)
 not_explained job p P (Err e) is = tt
 
 pub on_ok : {A E : Type 0} (P : Type 0) (result : Result A E) → P → OnOk result P
