@@ -8,6 +8,7 @@ complete -c smap-trace -l skip-broken -d 'Leave out maps that smap refuses, nami
 complete -c smap-trace -l strict -d 'Stop where smap refuses a map. Of logs that are files nothing is translated then'
 complete -c smap-trace -l check-all -d 'Check every map, those too whose scripts the log doesn\'t name'
 complete -c smap-trace -l list -d 'List the scripts that the log names: how often, and whether each has a map'
+complete -c smap-trace -x -l explain -d 'Say step by step why POSITION, or the line of a log, becomes that of a source, or stays'
 complete -c smap-trace -l names -d 'Write the names of functions in frames, where the source\'s text in the map says them surely'
 complete -c smap-trace -x -l context -d 'Show N lines of the source around each position, where the map has its text'
 complete -c smap-trace -x -l url-bytes -d 'Refuse a map if the URLs of its sources take more than N bytes (default 67108864)'

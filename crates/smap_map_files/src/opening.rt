@@ -86,7 +86,7 @@ fn is_script(name: &[u8]) -> bool
 }
 
 /// How wide the lines of a script are that was found in a folder, if they can be counted: its map ends there.
-fn ends_of(
+pub(crate) fn ends_of(
     alloc: Global,
     subject: &Subject<'_>,
     text: &[u8],
@@ -320,41 +320,39 @@ fn itself_ended(
     Ok(ended(alloc, loaded, ends)?)
 }
 
-/// Takes what a file holds for a map, ended as the script next to it is, follows a script to its map, or says
-/// what is wrong.
-fn settle_content<E: Eprint + AllocGlobal, D: Disk>(
+/// What became of what a file holds for a map: it is ended as the script next to it is; a script is followed
+/// to its map, or left out.
+fn content_loaded<E: Eprint + AllocGlobal, D: Disk>(
     host: &Host<'_, E, D>,
     how: How,
     subject: &Subject<'_>,
     content: Content,
     ends: &Option<Vec<usize>>,
-    worst: &mut u8,
-) -> Result<Option<SourceMap>, Stop>
+) -> Result<Option<(Place, Loaded)>, Stop>
     requires held { IsMadeOf IsContent (D.held host.now.disk.now) (place_in subject.now.place) content }
     requires ends { AreEnds (D.held host.now.disk.now) (folder_of subject.now.root)
         (place_in subject.now.place) (widths_in ends.now) }
-    ensures settled { IfOk result (λ found. MatchOption found
-        (GivesNone subject.now.reading (D.held host.now.disk.now) (folder_of subject.now.root)
-        subject.now.has_base (place_in subject.now.place) worst.new)
-        (IsOpened subject.now.reading (D.held host.now.disk.now) (folder_of subject.now.root)
-        subject.now.has_base (place_in subject.now.place))) }
-    ensures worst { worst.old ≤ worst.new }
+    ensures { IfOk result (λ found. MatchOption found
+        (IsLeftOut (D.held host.now.disk.now) (folder_of subject.now.root) (place_in subject.now.place))
+        (λ f. IsReached subject.now.reading (D.held host.now.disk.now) (folder_of subject.now.root)
+        subject.now.has_base (place_in subject.now.place) f.1)) }
 {
     match content {
-        Content::Script(text) => match script_loaded(host, how, subject, text)? {
-            Some((place, loaded)) => map_in(host, &place, loaded, worst),
-            None => Ok(None),
-        },
+        Content::Script(text) => script_loaded(host, how, subject, text),
         Content::Bytes(bytes) => {
+            let place = copied(host.alloc(), &subject.place)?;
             let loaded = itself_ended(host.alloc(), subject, &bytes, ends)?;
-            map_in(host, &subject.place, loaded, worst)
+            Ok(Some((place, loaded)))
         }
-        Content::Unread(why) => map_in(host, &subject.place, Loaded::Broken(why), worst),
+        Content::Unread(why) => {
+            let place = copied(host.alloc(), &subject.place)?;
+            Ok(Some((place, Loaded::Broken(why))))
+        }
     }
 }
 
 /// The script or the style sheet next to a map that was found in a folder.
-fn script_beside<'a>(
+pub(crate) fn script_beside<'a>(
     alloc: Global,
     subject: &Subject<'a>,
 ) -> Result<Option<Subject<'a>>, AllocError>
@@ -430,9 +428,33 @@ fn said_beside<E: Eprint + AllocGlobal, D: Disk>(
     }
 }
 
-/// The map of a place, opened, or says what is wrong with it. Of a script it is the map that its last comment
-/// names; so it is of a map that lies next to its script in a folder, if what the script names can be had.
-/// The map of a script of a folder ends where the lines of that do: nothing past these has an original.
+/// What became of the map of a place, and where it is; none if the place is a script that is left out. Of a
+/// script it is the map that its last comment names; so it is of a map that lies next to its script in a
+/// folder, if what the script names can be had. The map of a script of a folder ends where the lines of that
+/// do: nothing past these has an original.
+///
+/// # Errors
+///
+/// `Stop::Memory` alone.
+pub fn loaded_of<E: Eprint + AllocGlobal, D: Disk>(
+    host: &Host<'_, E, D>,
+    how: How,
+    subject: &Subject<'_>,
+) -> Result<Option<(Place, Loaded)>, Stop>
+    ensures { IfOk result (λ found. MatchOption found
+        (IsLeftOut (D.held host.now.disk.now) (folder_of subject.now.root) (place_in subject.now.place))
+        (λ f. IsReached subject.now.reading (D.held host.now.disk.now) (folder_of subject.now.root)
+        subject.now.has_base (place_in subject.now.place) f.1)) }
+{
+    let Beside { named, ends } = said_beside(host, how, subject)?;
+    if let Some(found) = named {
+        return Ok(Some(found));
+    }
+    let content = load(host.alloc(), host.disk, &subject.place)?;
+    content_loaded(host, how, subject, content, &ends)
+}
+
+/// The map of a place as [`loaded_of`] has it, or says what is wrong with it.
 ///
 /// # Errors
 ///
@@ -450,10 +472,8 @@ pub fn open_map_of<E: Eprint + AllocGlobal, D: Disk>(
         subject.now.has_base (place_in subject.now.place))) }
     ensures worst { worst.old ≤ worst.new }
 {
-    let Beside { named, ends } = said_beside(host, how, subject)?;
-    if let Some((place, loaded)) = named {
-        return map_in(host, &place, loaded, worst);
+    match loaded_of(host, how, subject)? {
+        Some((place, loaded)) => map_in(host, &place, loaded, worst),
+        None => Ok(None),
     }
-    let content = load(host.alloc(), host.disk, &subject.place)?;
-    settle_content(host, how, subject, content, &ends, worst)
 }

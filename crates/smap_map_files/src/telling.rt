@@ -68,6 +68,16 @@ fn words_of(alloc: Global, place: &Place, fault: &MapFault) -> Result<(String, u
     }
 }
 
+/// What is wrong with a map in words.
+///
+/// # Errors
+///
+/// `AllocError`.
+pub fn fault_words(alloc: Global, place: &Place, fault: &MapFault) -> Result<String, AllocError> {
+    let (words, _) = words_of(alloc, place, fault)?;
+    Ok(words)
+}
+
 /// Names a map that is refused. Answers its status.
 pub(crate) fn say_fault<E: Eprint + AllocGlobal, D: Disk>(
     host: &Host<'_, E, D>,

@@ -7,6 +7,7 @@ use Rattle.smap_system.specs.Held.{Held, IsHeld}
 use Rattle.smap_map_files.specs.declared.wanted.Wanted.{Wanted}
 use Rattle.smap_map_choice.specs.declared.picks.Pick.{Pick}
 use Rattle.smap_map_files.specs.declared.loading.Reading.{Reading}
+use Rattle.smap_map_finder.specs.Choice.{ArePicked, IsPicked}
 use Rattle.smap_map_finder.specs.Choice.{AreOne, ArePicksIn, AreWithoutCopies, HoldAlike, HoldSame, HoldsMap}
 use Rattle.smap_map_finder.specs.Choice.{IsFoundIn, IsOneMap, rivals}
 
@@ -56,3 +57,12 @@ first_pick w files name [] d are lt = absurd (omega (arith, lt))
 first_pick w files name (p ∷ picks) d are lt =
     subst (λ (n : List ℕ). IsFoundIn w files n p.found) (ap (λ (l : List (List ℕ)). get_or l 0 []) are.named)
     (are.each 0 p lt)
+
+-- what one name has
+pub first_picked : (held : Held) (w : Wanted) (in_frames : Bool) (name : List ℕ) (picks : List Pick)
+    (d : Pick) → ArePicked held w in_frames (name ∷ []) picks → 0 < length picks
+    → IsPicked held w in_frames name (get_or picks 0 d).found
+first_picked held w in_frames name [] d are lt = absurd (omega (arith, lt))
+first_picked held w in_frames name (p ∷ picks) d are lt =
+    subst (λ (n : List ℕ). IsPicked held w in_frames n p.found)
+    (ap (λ (l : List (List ℕ)). get_or l 0 []) are.named) (are.each 0 p lt)

@@ -1,7 +1,7 @@
 //! The maps of the scripts that a log names, as one value.
-ghost use Rattle.std.specs.Prelude.{◌≡◌, IfOk, OnOk, cond, map, option_map};
+ghost use Rattle.std.specs.Prelude.{◌≡◌, IfOk, IfSome, OnOk, cond, map, option_map};
 ghost use Rattle.std.specs.List.{All};
-ghost use Rattle.smap_map_finder.specs.Choice.{AreFiles};
+ghost use Rattle.smap_map_finder.specs.Choice.{AreFiles, IsPicked, names_of};
 ghost use Rattle.smap_map_finder.specs.ChosenView.{AreChosen, Grows, IsSettledIn, KeepEnds};
 ghost use Rattle.smap_map_finder.specs.ChosenView.{no_choices};
 ghost use Rattle.smap_map_finder.specs.Finding.{IsSameSearch};
@@ -10,10 +10,13 @@ ghost use Rattle.smap_trace.specs.Scripts.{map_of};
 
 use crate::chosen::Chosen;
 use crate::opening::{Opener, Search};
-use smap_map_files::{How, Wanted};
+use crate::roots::names_of;
+use smap_map_choice::Found;
+use smap_map_files::{How, Subject, Wanted};
 use smap_record::SourceMap;
 use smap_system::{Disk, Host, Stop};
 use smap_trace::Scripts;
+use std::alloc::AllocError;
 use std::marker::Model;
 use std::sync::Arc;
 
@@ -149,6 +152,42 @@ impl<'a, E: Eprint + AllocGlobal, D: Disk> Finder<'a, E, D> {
             (map (λ n. n.now) names.now) (map (option_map (λ f. f.now)) files.items)) }
     {
         self.search.files_of(in_frames, names)
+    }
+
+    /// What this name has, as `open_for` finds it. No map is opened.
+    ///
+    /// # Errors
+    ///
+    /// `Stop`.
+    pub fn found_for(&self, in_frames: bool, name: &[u8]) -> Result<Option<Found>, Stop>
+        ensures { IfOk result (λ found. IfSome found
+            (IsPicked (D.held self.now.disk) self.now.wanted in_frames name.now)) }
+    {
+        self.search.found_for(in_frames, name)
+    }
+
+    /// What `open_for` opens for this, which a name has; none if that is no file.
+    ///
+    /// # Errors
+    ///
+    /// `AllocError`.
+    pub fn subject_for(
+        &self,
+        name: &[u8],
+        found: Found,
+    ) -> Result<Option<Subject<'a>>, AllocError> {
+        self.search.subject_for(name, found)
+    }
+
+    /// The names by which the files are found that go by the ends of their names.
+    ///
+    /// # Errors
+    ///
+    /// `AllocError`.
+    pub fn names_of_files(&self) -> Result<Vec<&'a [u8]>, AllocError>
+        ensures { IfOk result (λ all. map (λ s. s.now) all.items ≡ names_of self.now.wanted) }
+    {
+        names_of(self.search.host.alloc(), self.search.wanted)
     }
 
     /// The status of a run whose maps are these: the greatest of a map that was refused, unless broken maps

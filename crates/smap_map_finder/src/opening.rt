@@ -3,6 +3,8 @@ ghost use Rattle.std.specs.Prelude.{◌≡◌, ◌≤◌, IfNone, IfOk, IfSome, 
 ghost use Rattle.std.specs.Prelude.{option_map};
 ghost use Rattle.smap_system.specs.Held.{Held};
 ghost use Rattle.smap_map_finder.specs.Choice.{IsOpenedAs, IsUnopened, files_of, places_of};
+ghost use Rattle.smap_map_finder.specs.Choice as spec;
+ghost use Rattle.smap_map_files.specs.RootView.{folder_of};
 ghost use Rattle.smap_map_finder.specs.ChosenView.{IsOver};
 ghost use Rattle.smap_map_choice.specs.Picks.{found_place};
 ghost use Rattle.smap_map_choice.specs.PlaceView.{place_in};
@@ -79,7 +81,29 @@ fn place_of(
     }
 }
 
-impl<E: Eprint + AllocGlobal, D: Disk> Search<'_, E, D> {
+impl<'a, E: Eprint + AllocGlobal, D: Disk> Search<'a, E, D> {
+    /// What is opened for a pick.
+    pub(crate) fn subject_of(&self, pick: &Pick<'_>) -> Result<Option<Subject<'a>>, AllocError>
+        ensures place { IfOk result (λ found. option_map (λ s. place_in s.place) found
+            ≡ found_place (places_of (wanted_in self.now)) (files_of (wanted_in self.now)) pick.now.name.now
+            pick.now.found) }
+        ensures how { IfOk result (λ found. IfSome found (λ s.
+            (folder_of s.root ≡ spec.root_of (wanted_in self.now) pick.now.found)
+            × (s.has_base ≡ spec.has_base (wanted_in self.now) pick.now.found)
+            × (s.reading ≡ (wanted_in self.now).reading))) }
+    {
+        let wanted = self.wanted;
+        let Some(place) = place_of(self.host.alloc(), wanted, pick)? else {
+            return Ok(None);
+        };
+        Ok(Some(Subject {
+            place,
+            root: root_of(wanted, pick.found),
+            has_base: has_base(wanted, pick.found),
+            reading: wanted.reading,
+        }))
+    }
+
     /// The map of a pick, opened.
     pub(crate) fn opened_map(
         &self,
@@ -92,15 +116,8 @@ impl<E: Eprint + AllocGlobal, D: Disk> Search<'_, E, D> {
             self.now) pick.now.name.now pick.now.found worst.new)) }
         ensures worst { worst.old ≤ worst.new }
     {
-        let (alloc, wanted) = (self.host.alloc(), self.wanted);
-        let Some(place) = place_of(alloc, wanted, pick)? else {
+        let Some(subject) = self.subject_of(pick)? else {
             return Ok(None);
-        };
-        let subject = Subject {
-            place,
-            root: root_of(wanted, pick.found),
-            has_base: has_base(wanted, pick.found),
-            reading: wanted.reading,
         };
         open_map_of(self.host, self.how, &subject, worst)
     }

@@ -1,12 +1,15 @@
 //! Which file each name of a log takes.
-ghost use Rattle.std.specs.Prelude.{◌≡◌, IfOk, map, option_map};
+ghost use Rattle.std.specs.Prelude.{◌≡◌, ◌∷◌, [], Bool, IfOk, IfSome, List, map, option_map, ℕ};
 ghost use Rattle.smap_map_finder.specs.Choice as spec;
-ghost use Rattle.smap_map_finder.specs.Choice.{AreFiles};
+ghost use Rattle.smap_map_finder.specs.Choice.{AreFiles, ArePicked, IsPicked};
+ghost use Rattle.smap_map_files.specs.declared.wanted.Wanted.{Wanted};
+ghost use Rattle.smap_system.specs.Held.{Held};
 ghost use Rattle.smap_map_finder.specs.Searching.{held_in, wanted_in};
 
 use crate::opening::{Opener, Search};
+use crate::picking::opening_name;
 use smap_map_choice::{Found, Pick};
-use smap_map_files::Wanted;
+use smap_map_files::{Subject, Wanted};
 use smap_system::{Disk, Stop};
 use std::alloc::{AllocError, Global};
 
@@ -25,6 +28,18 @@ fn file_of<'w>(wanted: &'w Wanted<'_>, found: Found) -> Option<&'w [u8]>
         },
         Found::Unclear(_, _) | Found::Missing => None,
     }
+}
+
+/// What is found for the one name of these.
+fn first_found(picks: &[Pick<'_>]) -> Option<Found>
+    ensures { (held : Held) (wanted : Wanted) (in_frames : Bool) (name : List ℕ)
+        → ArePicked held wanted in_frames (name ∷ []) picks.now
+        → IfSome result (IsPicked held wanted in_frames name) }
+{
+    if picks.len() == 0 {
+        return None;
+    }
+    Some(picks[0].found)
 }
 
 /// The files of these picks.
@@ -60,5 +75,30 @@ impl<'a, E: Eprint + AllocGlobal, D: Disk> Search<'a, E, D> {
         let picks = picks?;
         let files = files_of(host.alloc(), wanted, &picks)?;
         Ok(files)
+    }
+    /// What this name has; none can't be. No map is opened.
+    pub(crate) fn found_for(&self, in_frames: bool, name: &[u8]) -> Result<Option<Found>, Stop>
+        ensures { IfOk result (λ found. IfSome found
+            (IsPicked (held_in D.held self.now) (wanted_in self.now) in_frames name.now)) }
+    {
+        let mut opener = Opener::new(self.host.alloc(), self.wanted)?;
+        let picks = self.picks_of(&mut opener, in_frames, &[name]);
+        drop(opener);
+        let picks = picks?;
+        Ok(first_found(&picks))
+    }
+
+    /// What is opened for what a name has, under the name that it has then.
+    pub(crate) fn subject_for(
+        &self,
+        name: &[u8],
+        found: Found,
+    ) -> Result<Option<Subject<'a>>, AllocError> {
+        let pick = Pick { name, found };
+        let name = opening_name(self.host.alloc(), self.wanted, &pick)?;
+        self.subject_of(&Pick {
+            name: name.as_slice(),
+            found,
+        })
     }
 }

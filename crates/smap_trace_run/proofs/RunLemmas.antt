@@ -1,7 +1,7 @@
 -- What a run answers to its words.
 use Rattle.std.proofs.Common.{◌≡◌, ◌∙◌, ◌==◌, [], ◌∷◌, Bor, false, true, not, length, map, subst, sym, arith}
 use Rattle.std.proofs.Common.{ℕ, Bool, List, Option, None, Some, Result, Ok, Err, IfOk, OnOk, codes, inl, inr}
-use Rattle.std.specs.Prelude.{IsOk, cond}
+use Rattle.std.specs.Prelude.{IsOk, cond, option_map}
 use Rattle.std.proofs.Common.{refl}
 use Rattle.std.proofs.lemmas.Bool.Decides.{nat_tests}
 use Rattle.std.proofs.lemmas.List.{nil_from_length}
@@ -14,13 +14,14 @@ use Rattle.smap_map_files.specs.Positions.{has_positions, log_in}
 use Rattle.smap_map_files.specs.declared.wanted.Wanted.{Wanted}
 use Rattle.smap_trace_run.specs.Running.{IsSameRun, Running}
 use Rattle.smap_trace_run.specs.Runs.{AreFound, IsAnswered, IsJobOf, IsTracedAsked, IsTracedJob, IsTracedRun}
-use Rattle.smap_trace_run.specs.Runs.{AreTracedWords, IsTracedInput, IsTracedLines, IsTracedTo}
+use Rattle.smap_trace_run.specs.Runs.{AreTracedWords, IsToTranslate, IsTracedInput, IsTracedLines}
+use Rattle.smap_trace_run.specs.Runs.{IsTracedTo, IsTranslating}
 use Rattle.smap_trace_run.specs.Written.{AreTraced, IsTracedFront, IsTracedTextIn}
 use Rattle.smap_trace_run.specs.declared.program.TheConstants.{STDIN}
 use Rattle.smap_trace_run.specs.declared.program.InputKind.{InputKind}
 use Rattle.smap_trace_run.specs.declared.program.InputKind.TheVariants.{Closed, File, Other, Terminal}
 use Rattle.smap_trace_run.specs.declared.tracing.Job.{Job}
-use Rattle.smap_command_line.specs.Lookups.{has, text}
+use Rattle.smap_command_line.specs.Lookups.{text}
 use Rattle.smap_command_line.specs.Trace.{IsAsked}
 use Rattle.smap_command_line.specs.declared.trace.words.Asked.{Asked}
 use Rattle.smap_command_line.specs.declared.trace.words.TraceWords.{TraceWords}
@@ -43,13 +44,17 @@ to_its_end held job worst Closed left before after traced = traced
 to_its_end held job worst Terminal left before after traced = traced
 to_its_end held job worst Other left before after traced = traced
 
+none_mapped : {A B : Type 0} (f : A → B) (found : Option A) → option_map f found ≡ None → found ≡ None
+none_mapped f None is = refl
+none_mapped f (Some a) is = absurd cc
+
 -- what the words ask for, by its job
 pub asked_traced : {E : Type 0} (told : Told) (held : Held) (asked : TraceWords) (job : Job)
     (kind : InputKind) (left before after : Option (List ℕ)) (result : Result ℕ E)
     → AreFound told held asked job.wanted → IsJobOf asked job
-    → IfOk result (λ status. job.list ≡ false → IsTracedTo status held job kind left before after)
+    → IfOk result (λ status. IsTranslating job → IsTracedTo status held job kind left before after)
     → IfOk result (λ status. text asked.options (codes "output") ≡ None
-    → has asked.options (codes "list") ≡ false → (w : Wanted) × AreFound told held asked w
+    → IsToTranslate asked.options → (w : Wanted) × AreFound told held asked w
     × IsTracedAsked status held w asked kind left before after)
 asked_traced told held asked job kind left before after (Ok a) found of traced = λ none off. (
   job.wanted,
@@ -58,7 +63,10 @@ asked_traced told held asked job kind left before after (Ok a) found of traced =
     job = job;
     wanted_is = refl;
     is_job = of;
-    traced = traced (of.list ∙ off);
+    traced = traced (record {
+      list = of.list ∙ off.list;
+      explain = none_mapped (λ (p : Bor (List ℕ)). p.now) job.explain (of.explain ∙ off.explain);
+    });
   },
 )
 asked_traced told held asked job kind left before after (Err e) found of traced = tt
@@ -131,11 +139,23 @@ pub some_words : (held : Held) (job : Job) (worst : ℕ) (kind : InputKind)
 some_words held job worst kind left before after some traced =
     by_words held job worst job.wanted.positions.words.items kind left before after some traced
 
+true_false : (b : Bool) → b ≡ true → b ≡ false → ⊥
+true_false b is off = cc
+
+some_none : {A : Type 0} (found : Option A) (a : A) → found ≡ Some a → found ≡ None → ⊥
+some_none found a is none = cc
+
 -- a list is no translation
 pub not_listed : {E : Type 0} (job : Job) (P : ℕ → Type 0) (result : Result ℕ E) → job.list ≡ true
-    → IfOk result (λ status. job.list ≡ false → P status)
-not_listed job P (Ok status) is = λ off. absurd cc
+    → IfOk result (λ status. IsTranslating job → P status)
+not_listed job P (Ok status) is = λ off. absurd (true_false job.list is off.list)
 not_listed job P (Err e) is = tt
+
+-- nor is an explanation
+pub not_explained : {E : Type 0} (job : Job) (p : Bor (List ℕ)) (P : ℕ → Type 0) (result : Result ℕ E)
+    → job.explain ≡ Some p → IfOk result (λ status. IsTranslating job → P status)
+not_explained job p P (Ok status) is = λ off. absurd (some_none job.explain p is off.explain)
+not_explained job p P (Err e) is = tt
 
 pub on_ok : {A E : Type 0} (P : Type 0) (result : Result A E) → P → OnOk result P
 on_ok P (Ok a) p = p

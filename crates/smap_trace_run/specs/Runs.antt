@@ -1,6 +1,6 @@
 -- What a run writes of its logs.
 use Rattle.std.specs.Prelude.{◌≡◌, ◌⊎◌, ℕ, ◌&&◌, ◌||◌, Bool, false, not, List, [], ◌∷◌, map, ⊤}
-use Rattle.std.specs.Prelude.{Option, None, Some, codes, cond}
+use Rattle.std.specs.Prelude.{Option, None, Some, codes, cond, option_map}
 use Rattle.std.specs.Borrow.{Bor}
 use Rattle.std.specs.Io.KnownBytes.{Appends}
 use Rattle.smap_system.specs.Held.{Held}
@@ -76,6 +76,16 @@ pub record IsTracedTo (status : ℕ) (held : Held) (job : Job) (kind : InputKind
   pub traced : IsTracedJob held job worst kind left before after
   pub status_is : status ≡ cond job.how.skip 0 worst
 
+-- A run translates: it doesn't list scripts, and explains no position.
+pub record IsTranslating (job : Job) : Type 0 where
+  pub list : job.list ≡ false
+  pub explain : job.explain ≡ None
+
+-- So these options ask for.
+pub record IsToTranslate (options : Options) : Type 0 where
+  pub list : has options (codes "list") ≡ false
+  pub explain : text options (codes "explain") ≡ None
+
 -- whether it is no fault of a run that maps are refused
 abbrev pub skipping : Options → Bool
 skipping options = has options (codes "skip-broken") && not (has options (codes "strict"))
@@ -97,6 +107,7 @@ prefixes_of prefixes = map (λ p. (p.key.now, p.text.now)) prefixes
 pub record IsJobOf (asked : TraceWords) (job : Job) : Type 0 where
   pub anywhere : job.anywhere ≡ (finds_anywhere asked.options || has_positions job.wanted)
   pub list : job.list ≡ has asked.options (codes "list")
+  pub explain : option_map (λ p. p.now) job.explain ≡ text asked.options (codes "explain")
   pub check_all : job.check_all ≡ has asked.options (codes "check-all")
   pub skip : job.how.skip ≡ skipping asked.options
   pub strict : job.strict ≡ has asked.options (codes "strict")
@@ -135,6 +146,6 @@ abbrev pub IsAnswered : Told → Held → List ℕ → List ℕ → Asked → In
 IsAnswered told held help version Help kind left before after = Appends before after help
 IsAnswered told held help version Version kind left before after = Appends before after version
 IsAnswered told held help version (Trace asked) kind left before after =
-    text asked.options (codes "output") ≡ None → has asked.options (codes "list") ≡ false
+    text asked.options (codes "output") ≡ None → IsToTranslate asked.options
     → (wanted : Wanted) × AreFound told held asked wanted
     × IsTracedAsked 0 held wanted asked kind left before after

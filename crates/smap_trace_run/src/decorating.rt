@@ -2,13 +2,13 @@
 ghost use Rattle.smap_trace_run.specs.Written.{is_plain_style};
 ghost use Rattle.std.specs.Prelude.{◌≡◌};
 
-use smap_frames::push_position;
-use smap_logs::{add_context, with_prefix};
+use smap_logs::add_context;
 use smap_record::SourceMap;
 use smap_trace::{
     Counts, KnownFunctions, LineOutcome, LinePosition, MatchMode, RenamedFrame, Scripts, is_hidden,
     line_positions, named_frame, rename_frame,
 };
+use smap_trace_summary::original_text;
 use std::alloc::{AllocError, Global};
 use std::sync::Arc;
 
@@ -209,16 +209,10 @@ fn text_of(
     position: &LinePosition<'_>,
     prefixes: &[(&str, &str)],
 ) -> Result<Option<Vec<u8>>, AllocError> {
-    let Some(original) = &position.original else {
-        return Ok(None);
-    };
-    let Some(url) = original.source.url else {
-        return Ok(None);
-    };
-    let mut text = Vec::new(alloc);
-    let (line, column) = (u64::from(original.line), u64::from(original.column));
-    push_position(&mut text, url, line + 1, column + 1)?;
-    Ok(Some(with_prefix(alloc, prefixes, &text)?))
+    match &position.original {
+        Some(original) => original_text(alloc, original, prefixes),
+        None => Ok(None),
+    }
 }
 
 /// Adds the lines of the sources around the originals of a line's positions.

@@ -7,6 +7,7 @@
 mod alone;
 mod decorating;
 mod ending;
+mod explaining;
 mod listing;
 mod output;
 mod program;

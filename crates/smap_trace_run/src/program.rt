@@ -2,15 +2,17 @@
 ghost use Rattle.std.specs.Prelude.{◌≡◌, ◌||◌, [], false, true, IfOk, IsOk, None, Ok, OnOk, Some, codes};
 ghost use Rattle.std.specs.Prelude.{cond, map, ⊤};
 ghost use Rattle.smap_map_files.specs.Positions.{AreClear, has_positions, log_in};
-ghost use Rattle.smap_command_line.specs.Lookups.{has, text};
+ghost use Rattle.smap_command_line.specs.Lookups.{text};
 ghost use Rattle.smap_trace_run.specs.OutputView.{contents_of};
 ghost use Rattle.smap_trace_run.specs.Running.{IsSameRun};
 ghost use Rattle.smap_trace_run.specs.Runs.{AreFound, IsAnswered, IsJobOf, IsTracedAsked, IsTracedJob};
+ghost use Rattle.smap_trace_run.specs.Runs.{IsToTranslate, IsTranslating};
 ghost use Rattle.smap_trace_run.specs.Runs.{IsTracedTo, finds_anywhere, pairs_of, prefixes_of, skipping};
 ghost use Rattle.smap_trace_run.specs.Written.{IsTracedTextIn};
 ghost use Rattle.smap_command_line.specs.Trace.{IsAsked};
 
 use crate::decorating::Style;
+use crate::explaining::explain;
 use crate::listing::list;
 use crate::output::Output;
 use crate::tracing::{Job, Run, with_controls};
@@ -144,12 +146,15 @@ fn run_job<'h, E: Eprint + AllocGlobal, D: Disk, I: Read, W: Write + Drop>(
 ) -> Result<u8, Stop>
 where
     I: Drop,
-    ensures { IfOk result (λ status. job.now.list ≡ false → IsTracedTo status (D.held host.now.disk.now)
+    ensures { IfOk result (λ status. IsTranslating job.now → IsTracedTo status (D.held host.now.disk.now)
         job.now input.kind (I.remaining input.reader) (contents_of W.contents output.old)
         (contents_of W.contents output.new)) }
 {
     if job.list {
         return list(host, job, input.reader, output);
+    }
+    if let Some(position) = job.explain {
+        return explain(host, job, position, output);
     }
     let mut run = Run::new(&*host, &*job)?;
     let answer = run.trace(input, output);
@@ -179,16 +184,38 @@ fn check_input<E: Eprint + AllocGlobal, D: Disk>(
     }
 }
 
+/// Refuses to explain a position together with what else may be done.
+fn check_explained<E: Eprint + AllocGlobal, D: Disk>(
+    host: &Host<'_, E, D>,
+    wanted: &Wanted<'_>,
+    list: bool,
+) -> Result<(), Stop> {
+    if list {
+        return Err(host.fail(2, "--explain can't be given together with --list"));
+    }
+    if !wanted.logs.is_empty() || wanted.has_positions() {
+        return Err(host.fail(
+            2,
+            "--explain POSITION can't be given together with logs or other positions",
+        ));
+    }
+    Ok(())
+}
+
 /// Refuses positions that can't be translated, and a log that can't be had.
 fn check_lines<E: Eprint + AllocGlobal, D: Disk>(
     host: &Host<'_, E, D>,
     wanted: &Wanted<'_>,
-    list: bool,
+    options: &Options<'_>,
     kind: InputKind,
 ) -> Result<(), Stop>
     ensures { OnOk result (AreClear wanted.now) }
 {
     check_positions(host, wanted)?;
+    let list = options.has("list");
+    if options.text("explain").is_some() {
+        return check_explained(host, wanted, list);
+    }
     if list && wanted.has_positions() {
         return Err(host.fail(
             2,
@@ -280,7 +307,7 @@ fn found<'a, E: Eprint + AllocGlobal, D: Disk>(
             "no map is given: expected URL=FILE, URL/=FOLDER/, a folder or a map",
         ));
     }
-    check_lines(host, &wanted, asked.options.has("list"), kind)?;
+    check_lines(host, &wanted, &asked.options, kind)?;
     Ok(wanted)
 }
 
@@ -303,6 +330,7 @@ fn job_of<'p, 'a: 'p, E: Eprint + AllocGlobal, D: Disk>(
     Ok(Job {
         anywhere,
         list: options.has("list"),
+        explain: options.text("explain"),
         check_all: options.has("check-all"),
         quiet: options.has("quiet"),
         strict: options.has("strict"),
@@ -325,7 +353,7 @@ fn job_of<'p, 'a: 'p, E: Eprint + AllocGlobal, D: Disk>(
     })
 }
 
-/// Translates or lists. Answers the status of a run that came to its end.
+/// Translates, lists or explains. Answers the status of a run that came to its end.
 fn trace<'h, E: Eprint + AllocGlobal, D: Disk, I: Read, W: Write + Drop>(
     host: &'h Host<'h, E, D>,
     asked: &TraceWords<'_>,
@@ -335,7 +363,7 @@ fn trace<'h, E: Eprint + AllocGlobal, D: Disk, I: Read, W: Write + Drop>(
 where
     I: Drop,
     ensures { IfOk result (λ status. text asked.now.options (codes "output") ≡ None
-        → has asked.now.options (codes "list") ≡ false → (wanted : Wanted)
+        → IsToTranslate asked.now.options → (wanted : Wanted)
         × AreFound (D.tree host.now.disk.now) (D.held host.now.disk.now) asked.now wanted
         × IsTracedAsked status (D.held host.now.disk.now) wanted asked.now input.kind
         (I.remaining input.reader) (contents_of W.contents output.old) (contents_of W.contents output.new)) }

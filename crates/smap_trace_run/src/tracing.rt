@@ -34,6 +34,8 @@ use std::marker::Model;
 pub(crate) struct Job<'a> {
     pub(crate) anywhere: bool,
     pub(crate) list: bool,
+    /// What is explained in place of a log.
+    pub(crate) explain: Option<&'a str>,
     pub(crate) check_all: bool,
     /// Whether nothing is said at the end of what was not translated.
     pub(crate) quiet: bool,

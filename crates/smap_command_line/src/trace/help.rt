@@ -27,6 +27,8 @@ Rewrites the stack traces in a log: positions in scripts become positions in the
   --strict        Stop where smap refuses a map. Of logs that are files nothing is translated then
   --check-all     Check every map, those too whose scripts the log doesn't name
   --list          List the scripts that the log names: how often, and whether each has a map
+  --explain POSITION
+                  Say step by step why POSITION, or the line of a log, becomes that of a source, or stays
   --names         Write the names of functions in frames, where the source's text in the map says them surely
   --context N     Show N lines of the source around each position, where the map has its text
   --url-bytes N   Refuse a map if the URLs of its sources take more than N bytes (default 67108864)

@@ -2,7 +2,7 @@
 use crate::rows::{FLAG, OptionOf, OptionRow, URL_BYTES, Value};
 
 /// The options, in the order in which the help lists them and values are looked at.
-pub const OPTIONS: [OptionRow; 14] = [
+pub const OPTIONS: [OptionRow; 15] = [
     OptionOf {
         name: "frames-only",
         help: "Translate only lines that are stack frames, with nothing around them",
@@ -42,6 +42,15 @@ pub const OPTIONS: [OptionRow; 14] = [
         help: "List the scripts that the log names: how often, and whether each has a map",
         details: "The most frequent come first. This shows why nothing was translated, and standard \
                   error says which option may help. It needs no maps.",
+        ..FLAG
+    },
+    OptionOf {
+        name: "explain",
+        value: Value::Text,
+        value_name: "POSITION",
+        help: "Say step by step why POSITION, or the line of a log, becomes that of a source, or stays",
+        details: "The last line is the position in the source, or the reason and the command that comes \
+                  next; the status is 0 or 1. No log is read.",
         ..FLAG
     },
     OptionOf {
