@@ -1,5 +1,6 @@
 -- The comment by which a script names its map: which bytes of a text go, and which come in their place.
-use Rattle.std.specs.Prelude.{◌≡◌, ◌⊎◌, ℕ, zero, ◌+◌, ◌-◌, ◌==◌, ◌<◌, ◌≤◌, ◌&&◌, ◌||◌, Bool, true, not, nat_eq}
+use Rattle.std.specs.Prelude.{◌≡◌, ◌⊎◌, ℕ, zero, ◌+◌, ◌-◌, ◌==◌, ◌<◌, ◌≤◌, ◌&&◌, ◌||◌, Bool, true, not}
+use Rattle.std.specs.Prelude.{nat_eq}
 use Rattle.std.specs.Prelude.{List, [], ◌++◌, codes, cond, drop, length, take, Some}
 use Rattle.std.specs.List.{list_all, list_any, starts_with, suffix_len}
 use Rattle.smap_link.specs.Kinds.{file_kind, link_in}

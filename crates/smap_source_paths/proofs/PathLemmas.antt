@@ -32,7 +32,8 @@ one_more_folder steps i d lt =
     rw (
       take_more steps i d lt,
       split,
-      flat_map-append (λ (s : List ℕ). s ++ 47 ∷ []) (names (take i steps)) (cleaned (get_or steps i d).now ∷ []),
+      flat_map-append (λ (s : List ℕ). s ++ 47 ∷ []) (names (take i steps))
+          (cleaned (get_or steps i d).now ∷ []),
       append-nil (cleaned (get_or steps i d).now ++ 47 ∷ []),
     )
     refl

@@ -38,7 +38,8 @@ added ks k =
       λ q there. rw (split, list_any-append (bytes_eq q) (items_of ks) (k.items ∷ []), there) refl,
     )
 
-pub inserted : (ks : List (Vec ℕ)) (k : Vec ℕ) → Has (items_of ks) (items_of (insert_key same_key ks k)) k.items
+pub inserted : (ks : List (Vec ℕ)) (k : Vec ℕ)
+    → Has (items_of ks) (items_of (insert_key same_key ks k)) k.items
 inserted ks k = cond_both (list_any (same_key k) ks) ks (ks ++ k ∷ [])
     (λ after. Has (items_of ks) (items_of after) k.items)
     (λ there. (among k.items ks ∙ there, λ q was. was)) (λ _. added ks k)

@@ -65,7 +65,8 @@ low_word : (w : List ℕ) → is_device_word (95 ∷ w) ≡ false
 low_word w = refl
 
 low_line : (s : List ℕ) → is_device (95 ∷ s) ≡ false
-low_line s = rw (first_kept (prefix_len (λ b. not (is_left_out b)) s) s) (low_word (take (prefix_len (λ b. not (is_left_out b)) s) s))
+low_line s = rw (first_kept (prefix_len (λ b. not (is_left_out b)) s) s)
+    (low_word (take (prefix_len (λ b. not (is_left_out b)) s) s))
 
 guarded_device : (s : List ℕ) → is_device (guarded s) ≡ false
 guarded_device s = cond_both (is_device s) (95 ∷ s) s (λ x. is_device x ≡ false) (λ _. low_line s) (λ e. e)
@@ -136,9 +137,11 @@ or_unnamed_some (s ∷ ss) = omega arith
 
 all_clean : (text : List ℕ) → All IsShortAndSafe (map cleaned (last_steps (steps text)))
 all_clean text = All-map IsShortAndSafe cleaned (last_steps (steps text))
-    (All-weaker (λ s. leads s ≡ true) (λ s. IsShortAndSafe (cleaned s)) (λ s is. cleaned_safe s (some_leads s is))
+    (All-weaker (λ s. leads s ≡ true) (λ s. IsShortAndSafe (cleaned s))
+    (λ s is. cleaned_safe s (some_leads s is))
     (last_steps (steps text))
-    (All-drop (λ s. leads s ≡ true) (length (steps text) - 32) (steps text) (filter_passes leads (slice_split is_separator text))))
+    (All-drop (λ s. leads s ≡ true) (length (steps text) - 32) (steps text)
+    (filter_passes leads (slice_split is_separator text))))
 
 pub paths_are_safe : PathsAreSafe
 paths_are_safe url = (

@@ -7,8 +7,8 @@
 //! - `call NAME`: the call of the libraries with this name ([`calls`]).
 //! - `example`: a trace translated by the example of the library ([`example`]).
 //!
-//! The status is 1 where the example gives up, 2 for other words, 3 where reading or writing fails, and 4 without
-//! memory.
+//! The status is 1 where the example gives up, 2 for other words, 3 where reading or writing fails, and 4
+//! without memory.
 #![tactic(auto)]
 
 mod answers;
