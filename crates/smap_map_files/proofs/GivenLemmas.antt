@@ -10,7 +10,7 @@ use Rattle.std.proofs.lemmas.Option.{slice_get-map}
 use Rattle.std.specs.Str.{bytes_eq}
 use Rattle.smap_link.specs.Ends.{stem}
 use Rattle.smap_link.specs.Kinds.{is_map}
-use Rattle.smap_map_choice.specs.Places.{MapPlace, below, folder_place}
+use Rattle.smap_map_choice.specs.Places.{MapPlace, below}
 use Rattle.smap_map_files.specs.Chosen.{beside_flag, holds}
 use Rattle.smap_map_files.specs.Lists.{Lists, folder_named, has_own_map, wanted_names}
 use Rattle.smap_map_files.specs.Lists.{with_files, with_places, Folder, folder_in, own_folder, texts}

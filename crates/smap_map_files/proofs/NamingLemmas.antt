@@ -4,9 +4,7 @@ use Rattle.std.proofs.Common.{inr, refl, ap, sym, subst, ◌<◌, get_or, length
 use Rattle.std.proofs.lemmas.Bool.{cases_lt}
 use Rattle.std.proofs.lemmas.List.{take_more}
 use Rattle.smap_system.specs.Held.{Held}
-use Rattle.smap_system.specs.Tree.{IsKind, Told}
-use Rattle.smap_system.specs.declared.disk.Kind.{Kind as OnDisk}
-use Rattle.smap_system.specs.declared.disk.Kind.TheVariants as disk
+use Rattle.smap_system.specs.Tree.{Told}
 use Rattle.smap_command_line.specs.Following.{Follows, IsFirst}
 use Rattle.smap_command_line.specs.Order.{ComesBefore, IsSplit}
 use Rattle.smap_command_line.specs.Splits.{base_in, split_fault}
@@ -15,9 +13,9 @@ use Rattle.smap_command_line.specs.declared.trace.splits.Kind.TheVariants.{File,
 use Rattle.smap_command_line.specs.declared.trace.splits.Split.{Split}
 use Rattle.smap_command_line.specs.declared.trace.arguments.Argument.{Argument}
 use Rattle.smap_map_files.specs.Lists.{Lists, with_map}
-use Rattle.smap_map_files.specs.Naming.{IsFirstThere, IsNotThere, IsReadable, IsThere, Names, NamesAll}
-use Rattle.smap_map_files.specs.Naming.{NamesFile, NamesFolder, NamesFolderAlone}
-use Rattle.smap_map_files.specs.Naming.{NamesPath, NamesWay, file_in}
+use Rattle.smap_map_files.specs.Naming.{IsFirstThere, IsNotThere, IsReadable, Names, NamesAll}
+use Rattle.smap_map_files.specs.Naming.{NamesFolder}
+use Rattle.smap_map_files.specs.Naming.{NamesWay, file_in}
 
 module _ (told : Told) (held : Held) where
   all_more : (args : List Argument) (a : Argument) (before between after : Lists)
