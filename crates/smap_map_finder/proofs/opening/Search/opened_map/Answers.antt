@@ -6,12 +6,14 @@ pub returns-clause-named : goal.returns-clause-named
 returns-clause-named g c =
     let at = rw c.in-Some.is at c.in_ok-subject.ensures.place in
     let how = rw c.in-Some.is at c.in_ok-subject.ensures.how in
-    opened_so _ _ _ _ (place_in c.in-Some.subject.place) _ _ _ _ c.open_map_of.result at how.0 how.1 how.2
+    opened_so _ c.args.self.now.wanted.now c.args.pick.now.name.now c.args.pick.now.found
+    (place_in c.in-Some.subject.place) _ _ _ _ c.open_map_of.result at how.0 how.1 how.2
     c.open_map_of.ensures.settled
 
 pub returns-clause-none : goal.returns-clause-none
 returns-clause-none g c =
     let at = rw c.in-Some.is at c.in_ok-subject.ensures.place in
     let how = rw c.in-Some.is at c.in_ok-subject.ensures.how in
-    unopened_so _ _ _ _ (place_in c.in-Some.subject.place) _ _ _ _ c.open_map_of.result at how.0 how.1 how.2
+    unopened_so _ c.args.self.now.wanted.now c.args.pick.now.name.now c.args.pick.now.found
+    (place_in c.in-Some.subject.place) _ _ _ _ c.open_map_of.result at how.0 how.1 how.2
     c.open_map_of.ensures.settled
