@@ -181,7 +181,11 @@ fn is_script(file: &str) -> bool {
 }
 
 /// The map that is meant by a target, which may be a script; none where that has none.
-fn found<D: Disk>(alloc: Global, disk: &D, target: &Target) -> Result<Option<Found>, Verdict> {
+fn map_of_target<D: Disk>(
+    alloc: Global,
+    disk: &D,
+    target: &Target,
+) -> Result<Option<Found>, Verdict> {
     let file = target.file.as_str();
     let bytes = bytes_of(alloc, disk, file)?;
     if is_script(file) {
@@ -200,7 +204,7 @@ fn gather_target<E: Eprint + AllocGlobal, D: Disk>(
     url_bytes: usize,
     extraction: &mut Extraction,
 ) -> Result<u8, Stop> {
-    let found = match found(host.alloc(), host.disk, target) {
+    let found = match map_of_target(host.alloc(), host.disk, target) {
         Ok(Some(found)) => found,
         Ok(None) => {
             host.say_of(target.file.as_str(), "names no map that is there");

@@ -185,8 +185,10 @@ fn add_map<E: Eprint + AllocGlobal, D: Disk>(
     add_loaded(alloc, &place, &loaded, steps)?;
     match loaded {
         Loaded::Map(map) => Ok(add_position(alloc, question, spot, &read.ends, map, steps)?),
-        Loaded::Mended(map, _) => Ok(add_position(alloc, question, spot, &read.ends, map, steps)?),
-        Loaded::Broken(_) => Ok(Ending::Stays(Stay::Refused)),
+        Loaded::Mended(map, _repairs) => Ok(add_position(
+            alloc, question, spot, &read.ends, map, steps,
+        )?),
+        Loaded::Broken(_fault) => Ok(Ending::Stays(Stay::Refused)),
     }
 }
 

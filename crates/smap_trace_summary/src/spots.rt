@@ -61,6 +61,10 @@ fn span_spot<'a>(text: &'a [u8], span: &Span) -> Option<Spot<'a>> {
     })
 }
 
+fn is_among(sought: &[&[u8]], name: &[u8]) -> bool {
+    sought.iter().any(|one| *one == name)
+}
+
 /// Adds the positions anywhere in a line whose names are looked for.
 fn add_others<'a>(
     alloc: Global,
@@ -72,7 +76,7 @@ fn add_others<'a>(
     add_spans(text, &mut spans)?;
     for span in &spans {
         if let Some(spot) = span_spot(text, span) {
-            if sought.contains(&spot.name) {
+            if is_among(sought, spot.name) {
                 spots.push(spot)?;
             }
         }

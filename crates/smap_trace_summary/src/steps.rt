@@ -315,7 +315,8 @@ pub(crate) fn add_mapping(
 
 /// The original of a position, in words.
 fn source_words(alloc: Global, original: &OriginalView<'_>) -> Result<String, AllocError> {
-    let (line, column) = (u64::from(original.line) + 1, u64::from(original.column) + 1);
+    let (row, place) = (original.line, original.column);
+    let (line, column) = (u64::from(row) + 1, u64::from(place) + 1);
     let url = printable(
         alloc,
         original
