@@ -10,8 +10,8 @@ Prints three tables. The first is of a short log that names three scripts, by th
 the second of a log of --megabytes; the third of logs that name many maps, by their number. The log is a file,
 or comes through a pipe. With --into the tables are put between the two lines of that file that hold `figures of
 trace.py`. With --before the shell scripts that were smap-trace earlier, those of the commit c31943b, are put
-into FOLDER and measured beside. With --names another table is printed, of logs without and with that
-option; --into puts it where the lines hold `figures of names in logs`. Before anything is timed, each way has to write of a log what `smap translate`
+into FOLDER and measured beside. With --names only another table is printed, of logs without and with
+that option. Before anything is timed, each way has to write of a log what `smap translate`
 writes of it. Takes twice the megabytes of disk. Let nothing else run meanwhile.
 
 With --once all is small, and each run is made once, and has to keep within bounds: on the time of the
@@ -288,10 +288,10 @@ def memories(runner, temp, ways, sizes):
 
 def with_and_without_names(runner, temp, maps, functions, size):
     """What a log takes whose frames are in such maps, without names of functions and with them; its MB."""
-    folder = temp / f"functions{maps}"
+    folder, text = temp / f"functions{maps}", map_of_functions(functions)
     folder.mkdir()
     for number in range(maps):
-        (folder / f"{number}.js.map").write_text(map_of_functions(functions))
+        (folder / f"{number}.js.map").write_text(text)
     draw = random.Random(maps)
     lines = [
         f"    at t ({URL}{line % maps}.js:{draw.randint(1, functions)}:{draw.randint(1, 14)})\n"
@@ -356,18 +356,14 @@ def table_of_memory(runner, temp, ways, sizes):
     )
 
 
-def tables_of_names(runner, temp, megabytes):
-    out = head_of(["a log of frames", "MB", "seconds", "with `--names`", "MB a second", "with `--names`"])
-
-    def row(what, maps, functions, size):
-        megabytes, seen = with_and_without_names(runner, temp, maps, functions, size)
-        speeds = [f"{megabytes / used.processors:,.1f}" for used in seen]
-        return row_of([what, f"{megabytes:,.1f}", *(f"{used.processors:.2f}" for used in seen), *speeds])
-
-    out += row(f"in {MAPS_OF_LOG} sources of 83 KB", MAPS_OF_LOG, FUNCTIONS_OF_MB // 12, megabytes * 1_000_000)
-    for maps in (1, 10, 100):
-        out += row(f"one in each of {maps} sources of 1 MB", maps, FUNCTIONS_OF_MB, 0)
-    return out
+def tell_names(runner, temp, megabytes):
+    """Prints the table of logs whose frames all get names, and of one frame in each of some large sources."""
+    head_of(["sources", "functions of each", "MB of the log", "seconds", "with `--names`"])
+    large = [(maps, FUNCTIONS_OF_MB, 0) for maps in (1, 10, 100)]
+    for maps, functions, size in [(MAPS_OF_LOG, 1_000, megabytes * 1_000_000), *large]:
+        length, seen = with_and_without_names(runner, temp, maps, functions, size)
+        seconds = [f"{used.processors:.2f}" for used in seen]
+        row_of([f"{maps:,}", f"{functions:,}", f"{length:,.1f}", *seconds])
 
 
 # ---- with --once
@@ -475,9 +471,7 @@ def main():
             sizes = replace(ONCE, megabytes=words.megabytes or ONCE.megabytes)
             return check(Runner(1), temp, program, sizes)
         if words.names:
-            text = tables_of_names(Runner(words.runs), temp, words.megabytes or 1000)
-            if words.into:
-                put_into(words.into, "figures of names in logs", text)
+            tell_names(Runner(words.runs), temp, words.megabytes or 1000)
             return 0
         sizes = Sizes(words.megabytes or 1000, words.runs, words.maps, words.named, words.segments)
         text = measure(Runner(sizes.runs), temp, program, ways_of(before), sizes)
