@@ -3,7 +3,8 @@ use Rattle.std.proofs.Common.{◌≡◌, ◌∙◌, ℕ, ◌+◌, ◌<◌, List,
 use Rattle.std.proofs.Common.{arith}
 use Rattle.std.proofs.Math.Seq.{map-set_same}
 use Rattle.std.proofs.Math.ListN.{get_or-map, set}
-use Rattle.std.proofs.lemmas.List.{length-map, take_more}
+use Rattle.std.specs.List.{Contains}
+use Rattle.std.proofs.lemmas.List.{get_or_default, length-map, take_more}
 use Rattle.std.proofs.lemmas.Simd.{map-map}
 use Rattle.std.proofs.Common.{Option, Some, None, false, inl, inr, subst}
 use Rattle.smap_record.specs.Record.{Allowed, ReadMap, Record, record_of}
@@ -28,6 +29,17 @@ module _ {A B C : Type 0} (f : A → B) (g : B → C) (xs before : List A) (i : 
       (omega (arith, within, length-map xs (λ x. g (f x)), ap length same_by))
       ∙ ap (λ y. take i (map (λ x. g (f x)) before) ++ y ∷ [])
       (sym (ap (λ ys. get_or ys i (g (f d))) same_by) ∙ get_or-map (λ x. g (f x)) xs i d)
+
+  -- what the one at a place gives is among those of all
+  pub among : (c : C) → i < length xs → g (f (get_or xs i d)) ≡ c → Contains (map (λ x. g (f x)) before) c
+  among c within is =
+      let below : i < length (map (λ x. g (f x)) before) =
+      omega (arith, within, length-map xs (λ x. g (f x)), ap length same_by) in (
+        i,
+        below,
+        get_or_default (map (λ x. g (f x)) before) i c (g (f d)) below
+            ∙ sym (ap (λ ys. get_or ys i (g (f d))) same_by) ∙ get_or-map (λ x. g (f x)) xs i d ∙ is,
+      )
 
 -- ---- what is made
 
