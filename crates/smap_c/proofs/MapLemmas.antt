@@ -46,13 +46,14 @@ read_within p limits most bytes r is = grind (arith, nat_tests)
 pub opened_against : (bytes : List ℕ) (p : Parts) (limits : Allowed) (most : ℕ) (r : ReadMap)
     (ss : List Spelling) (m : Opened) → reading_within p limits most bytes ≡ Ok (Some r)
     → ss ≡ as_written bytes → length ss ≡ length r.listing.sources
-    → map (λ e. e.url) r.listing.sources ≡ map (url_of p) ss → m.base ≡ p → m.map ≡ r → m.written ≡ ss
+    → map (λ e. e.url) r.listing.sources ≡ map (url_of p) ss → m.base.value ≡ p → m.map ≡ r
+    → m.written ≡ Some ss
     → OpensAgainst bytes p limits most (Ok (Some m))
 opened_against bytes p limits most r ss m is all as_many urls same mapped spelled =
     let read = read_within p limits most bytes r is in (
       same,
       rw (same, mapped) read.0,
-      (rw spelled all, rw (spelled, mapped) as_many, rw (mapped, same, spelled) urls),
+      (rw (spelled, all) refl, rw (← all, mapped) as_many, rw (← all, mapped, same) urls),
       rw same read.1,
     )
 

@@ -1,12 +1,12 @@
 -- Originals that are looked up in the maps of their sources.
-use Rattle.std.proofs.Common.{◌≡◌, ℕ, ◌+◌, List, [], ◌∷◌, map, Option, Some, None}
+use Rattle.std.proofs.Common.{◌≡◌, ℕ, ◌+◌, ◌<◌, List, [], ◌∷◌, get_or, length, map, Option, Some, None}
 use Rattle.std.proofs.Common.{Bool, true, false}
 use Rattle.std.proofs.Common.{ap, refl, subst, sym, ◌∙◌, arith, slice_get}
 use Rattle.std.specs.Prelude.{IfSome, if◌then◌else◌, option_and_then, option_copied, option_map, unwrap_or}
 use Rattle.std.specs.List.{AllByRecursion}
 use Rattle.std.specs.Option.{option_or}
 use Rattle.std.proofs.lemmas.List.{length-map}
-use Rattle.std.proofs.lemmas.Option.{slice_get-map, slice_get_within}
+use Rattle.std.proofs.lemmas.Option.{slice_get-map, slice_get_read, slice_get_within}
 use denote.Ref.{Bor}
 use Rattle.smap_record.specs.declared.view.OriginalView.{OriginalView}
 use Rattle.smap_record.specs.declared.view.TokenView.{TokenView}
@@ -15,7 +15,7 @@ use Rattle.smap_record.proofs.ListLemmas.{all_at}
 use Rattle.smap_mappings.specs.declared.token.Token.{Token}
 use Rattle.smap_mappings.specs.declared.token.Original.{Original}
 use Rattle.smap_mappings.specs.Text.{IsOriginal, IsPlaced}
-use Rattle.smap_record.specs.Record.{Entry, Listing, Mapping, Origin, mapping_of, no_entry, origin_of}
+use Rattle.smap_record.specs.Record.{Entry, Listing, Mapping, Origin, ReadMap, mapping_of, no_entry, origin_of}
 use Rattle.smap_record.specs.Listings.{IsListing}
 use Rattle.smap_trace.specs.Lookup.{is_within, mapping_at}
 use Rattle.smap_compose.specs.Composing.{led_on, under}
@@ -109,3 +109,11 @@ pub led_listed : (sources rs : List Entry) (start n : ℕ) (o p : Origin) (name 
     } ≡ led_on o p
 led_listed sources rs start n o p name holds at named =
     rw (source_from sources rs start n o.source.ignored p.source holds at, named) refl
+
+-- ---- maps that something holds
+
+-- the map that the one at a place holds
+pub held_at : {H : Type 0} (held : H → ReadMap) (hs : List H) (k : ℕ) (h : H) (m : ReadMap) → k < length hs
+    → h ≡ get_or hs k h → m ≡ held h → slice_get (map held hs) k ≡ Some m
+held_at held hs k h m below is same = slice_get-map held hs k
+    ∙ ap (option_map held) (slice_get_read hs (length hs) k h refl below is) ∙ ap Some (sym same)
