@@ -205,8 +205,8 @@ fn table_memory(map: &SourceMap) -> usize
     }
 }
 
-/// How much memory a map takes, with its base, its sources as they are written, if it was read from a text, and
-/// the table of its lines.
+/// How much memory a map takes, with its base, the table of its lines and, if it was read from a text, its
+/// sources as they are written.
 pub fn memory_of(base: &Base, map: &SourceMap, written: Option<&WrittenSources>) -> usize
     ensures { result ≡ capped (memory_of base.now map.now (option_copied written.entry)) }
 {

@@ -26,7 +26,8 @@ returns-in-Err-clause-refused g c = λ is.
     (slice_get-map (mapping_of l) l.tokens c.loop-i.i
     ∙ ap (option_map (mapping_of l)) c.listed_token-token.ensures)
     in
-    too_many l (maps_of c.args.outer.now (map g.H.HasMap.held_map c.args.inner.now) c.args.leads.now) c.args.standing.now.sources
+    too_many l (maps_of c.args.outer.now (map g.H.HasMap.held_map c.args.inner.now) c.args.leads.now)
+    c.args.standing.now.sources
     c.loop-i.i t c.original_of-original.result c.listed_token-token.ensures led
     (texts_of c.loop-i.joined.names.keys) c.args.items c.loop-i.invariant.are.used
     (c.in-Err.ensures.refused is)

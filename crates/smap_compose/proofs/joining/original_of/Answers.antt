@@ -17,7 +17,8 @@ followed-requires-clause-within g c =
     let at = subst (λ (x : Option OriginalView). IfSome x (λ p.
     slice_get (record_of outer).sources p.source_number ≡ Some (entry_of_view p.source)))
     c.in_ok-original.was c.token.ensures.number in
-    within_starts outer (map g.H.HasMap.held_map c.args.inner.now) c.args.leads.now c.args.standing.now c.deref.result.now
+    within_starts outer (map g.H.HasMap.held_map c.args.inner.now) c.args.leads.now c.args.standing.now
+    c.deref.result.now
     c.requires.standing c.deref.ensures.value o.source_number (entry_of_view o.source) at
 
 pub followed-requires-clause-start : goal.followed-requires-clause-start
@@ -27,7 +28,8 @@ followed-requires-clause-start g c =
     let at = subst (λ (x : Option OriginalView). IfSome x (λ p.
     slice_get (record_of outer).sources p.source_number ≡ Some (entry_of_view p.source)))
     c.in_ok-original.was c.token.ensures.number in
-    let within = within_sources outer (map g.H.HasMap.held_map c.args.inner.now) c.args.leads.now c.args.standing.now c.deref.result.now
+    let within = within_sources outer (map g.H.HasMap.held_map c.args.inner.now) c.args.leads.now
+    c.args.standing.now c.deref.result.now
     c.requires.standing c.deref.ensures.value o.source_number (entry_of_view o.source) at in
     omega (arith, within, c.requires.few)
 
@@ -63,5 +65,6 @@ returns-clause-within g c =
     slice_get (record_of outer).sources p.source_number ≡ Some (entry_of_view p.source)))
     c.in_ok-original.was c.token.ensures.number in
     c.followed.ensures.within (length c.args.standing.now.sources)
-    (within_sources outer (map g.H.HasMap.held_map c.args.inner.now) c.args.leads.now c.args.standing.now c.deref.result.now
+    (within_sources outer (map g.H.HasMap.held_map c.args.inner.now) c.args.leads.now c.args.standing.now
+    c.deref.result.now
     c.requires.standing c.deref.ensures.value o.source_number (entry_of_view o.source) at)
