@@ -6,11 +6,15 @@ use Rattle.std.proofs.Math.ListN.{get_or-map, set}
 use Rattle.std.specs.List.{Contains}
 use Rattle.std.proofs.lemmas.List.{get_or_default, length-map, take_more}
 use Rattle.std.proofs.lemmas.Simd.{map-map}
-use Rattle.std.proofs.Common.{Option, Some, None, false, inl, inr, subst}
+use Rattle.std.proofs.Common.{Option, Some, None, false, true, inl, inr, refl, subst}
 use Rattle.smap_record.specs.Record.{Allowed, ReadMap, Record, record_of}
 use Rattle.smap_compose.specs.Composing.{composition}
 use Rattle.smap_compose.specs.Numbered.{is_too_many, maps_of}
-use Rattle.smap_c.specs.Composing.{Composes, Makes}
+use Rattle.smap_c_answers.specs.Codes as codes
+use Rattle.smap_c.specs.Composing.{Composes, ComposesInto, ComposesOpen, Makes}
+use Rattle.smap_c.specs.Maps.{AreLimits, allowed}
+use Rattle.smap_c.specs.declared.maps.Shared.{Shared}
+use Rattle.smap_c.specs.declared.maps.SmapLimits.{SmapLimits}
 use Rattle.smap_c.specs.declared.opened.Opened.{Opened}
 
 module _ {A B C : Type 0} (f : A → B) (g : B → C) (xs before : List A) (i : ℕ) (d : A)
@@ -59,3 +63,36 @@ composes o ms indices ls limits m old new code same few is made = inl (
   made_as o (record_of m) _ old new code (is
       ∙ ap (λ (l : List (Option ℕ)). composition (record_of o.map) (maps_of o.map ms l)) same) made,
 )
+
+-- what would be too large
+pub too_large : (o : Opened) (ms : List ReadMap) (indices : List ℕ) (ls : List (Option ℕ)) (limits : Allowed)
+    (old : Option Opened) → ls ≡ map Some indices
+    → is_too_many limits (record_of o.map) (maps_of o.map ms ls) ≡ true
+    → Composes o ms indices limits old old codes.TOO_MANY
+too_large o ms indices ls limits old same many = inr (inl (
+  subst (λ (l : List (Option ℕ)). is_too_many limits (record_of o.map) (maps_of o.map ms l) ≡ true) same many,
+  (refl, refl),
+))
+
+-- the same by the shares in the inner maps
+pub composes_into : (outer : Option Opened) (inner : List (Option Opened)) (shares : List Shared)
+    (indices : List ℕ) (asked : SmapLimits) (limits : Allowed) (old new : Option Opened) (code : ℕ)
+    → AreLimits asked → limits ≡ allowed asked → inner ≡ map (λ s. Some s.arc.value) shares
+    → ComposesOpen outer (map (λ s. s.arc.value.map) shares) indices limits old new code
+    → ComposesInto outer inner indices asked old new code
+composes_into None inner shares indices asked limits old new code are allows same is =
+    inr (inl (inr refl, is))
+composes_into (Some o) inner shares indices asked limits old new code are allows same is =
+    let opened : Shared → Opened = λ s. s.arc.value in
+    let map_in : Opened → ReadMap = λ x. x.map in
+    let maps : map map_in (map opened shares) ≡ map (λ (s : Shared). s.arc.value.map) shares =
+    map-map map_in opened shares in
+    inr (inr (inr (
+      o,
+      map opened shares,
+      are,
+      refl,
+      same ∙ sym (map-map Some opened shares),
+      subst (λ (l : Allowed). Composes o (map map_in (map opened shares)) indices l old new code) allows
+          (rw maps is),
+    )))

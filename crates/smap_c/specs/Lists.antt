@@ -112,7 +112,8 @@ ListedToken (Some o) i before after code = TokenReported o.map i before after co
 
 abbrev pub WrittenSource : Option Opened → ℕ → List ℕ → List ℕ → ℕ → ℕ → Type 0
 WrittenSource None i before after len code = ClosedReported before after len code
-WrittenSource (Some o) i before after len code = WrittenSourceReported (spellings_of o) i before after len code
+WrittenSource (Some o) i before after len code =
+    WrittenSourceReported (spellings_of o) i before after len code
 
 abbrev pub WrittenRoot : Option Opened → ℕ → List ℕ → List ℕ → ℕ → ℕ → Type 0
 WrittenRoot None i before after len code = ClosedReported before after len code

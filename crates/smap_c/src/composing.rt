@@ -5,7 +5,8 @@ ghost use Rattle.smap_record.specs.Record.{record_of};
 ghost use Rattle.smap_compose.specs.Thinning.{thinned};
 ghost use Rattle.smap_compose.specs.Using.{used};
 ghost use Rattle.smap_c_answers.specs.Codes as codes;
-ghost use Rattle.smap_c.specs.Composing.{Composes, ComposesInto, Makes, MakesInto, NotShared};
+ghost use Rattle.smap_c.specs.Composing.{Composes, ComposesInto, ComposesOpen, Makes, MakesInto};
+ghost use Rattle.smap_c.specs.Composing.{NotShared, made_by};
 ghost use Rattle.smap_c.specs.Handles.{held_map};
 
 use crate::handles::{SmapMap, with_open};
@@ -98,7 +99,7 @@ fn leads_of(alloc: Global, indices: &[usize]) -> Result<Vec<Option<usize>>, Allo
     Ok(leads)
 }
 
-#[tactic(auto, using(crate::proofs::ComposingLemmas::composes))]
+#[tactic(auto, using(crate::proofs::ComposingLemmas::too_large))]
 fn put_composition(
     alloc: Global,
     outer: &Opened,
@@ -118,6 +119,25 @@ fn put_composition(
         Err(ComposeError::TooMany) => TOO_MANY,
         Err(ComposeError::Memory) => MEMORY,
     }
+}
+
+/// The same of the map that a handle has.
+fn compose_open(
+    alloc: Global,
+    outer: &mut SmapMap,
+    inner: &[Shared],
+    indices: &[usize],
+    limits: Limits,
+    out: &mut SmapMap,
+) -> u32
+    ensures composed { ComposesOpen (held_map outer.old.owner.value)
+        (mapped (λ s. s.arc.value.map) inner.now) indices.now limits
+        (held_map out.old.owner.value) (held_map out.new.owner.value) result }
+    ensures same { outer.new.owner.value ≡ outer.old.owner.value }
+{
+    with_open(alloc, outer, out, |opened, out| {
+        put_composition(alloc, opened, inner, indices, limits, out)
+    })
 }
 
 /// Composes a map with maps of its sources.
@@ -143,20 +163,44 @@ pub extern "C" fn smap_compose(
         Ok(shares) => shares,
         Err(code) => return code,
     };
-    with_open(alloc, outer, out, |opened, out| {
-        put_composition(alloc, opened, &shares, leads, limits, out)
-    })
+    compose_open(alloc, outer, &shares, leads, limits, out)
 }
 
-#[tactic(auto, using(crate::proofs::ComposingLemmas::made_as))]
-fn put_thinned(alloc: Global, opened: &Opened, out: &mut SmapMap) -> u32
-    ensures { Makes opened.now (thinned (record_of opened.now.map)) (held_map out.old.owner.value)
+/// What is made of a map.
+#[derive(Clone, Copy)]
+pub(crate) enum Making {
+    Thinned,
+    Used,
+}
+
+fn made_by(alloc: Global, making: Making, map: &SourceMap) -> Result<SourceMap, AllocError>
+    ensures { IfOk result (λ m. record_of m ≡ made_by making (record_of map.now)) }
+{
+    match making {
+        Making::Thinned => thin(alloc, map),
+        Making::Used => only_used(alloc, map),
+    }
+}
+
+fn put_made_by(alloc: Global, making: Making, opened: &Opened, out: &mut SmapMap) -> u32
+    ensures { Makes opened.now (made_by making (record_of opened.now.map)) (held_map out.old.owner.value)
         (held_map out.new.owner.value) result }
 {
-    match thin(alloc, &opened.map) {
+    match made_by(alloc, making, &opened.map) {
         Ok(map) => put_made(alloc, opened, map, out),
         Err(_) => MEMORY,
     }
+}
+
+/// The same of the map that a handle has.
+fn make_by(alloc: Global, making: Making, map: &mut SmapMap, out: &mut SmapMap) -> u32
+    ensures made { MakesInto (made_by making) (held_map map.old.owner.value) (held_map out.old.owner.value)
+        (held_map out.new.owner.value) result }
+    ensures same { map.new.owner.value ≡ map.old.owner.value }
+{
+    with_open(alloc, map, out, |opened, out| {
+        put_made_by(alloc, making, opened, out)
+    })
 }
 
 /// Makes a map without the mappings that change no lookup's original.
@@ -166,20 +210,7 @@ pub extern "C" fn smap_thin(alloc: Global, map: &mut SmapMap, out: &mut SmapMap)
         (held_map out.new.owner.value) result }
     ensures same { map.new.owner.value ≡ map.old.owner.value }
 {
-    with_open(alloc, map, out, |opened, out| {
-        put_thinned(alloc, opened, out)
-    })
-}
-
-#[tactic(auto, using(crate::proofs::ComposingLemmas::made_as))]
-fn put_used(alloc: Global, opened: &Opened, out: &mut SmapMap) -> u32
-    ensures { Makes opened.now (used (record_of opened.now.map)) (held_map out.old.owner.value)
-        (held_map out.new.owner.value) result }
-{
-    match only_used(alloc, &opened.map) {
-        Ok(map) => put_made(alloc, opened, map, out),
-        Err(_) => MEMORY,
-    }
+    make_by(alloc, Making::Thinned, map, out)
 }
 
 /// Makes a map without the sources that no mapping has.
@@ -189,7 +220,5 @@ pub extern "C" fn smap_only_used(alloc: Global, map: &mut SmapMap, out: &mut Sma
         (held_map out.new.owner.value) result }
     ensures same { map.new.owner.value ≡ map.old.owner.value }
 {
-    with_open(alloc, map, out, |opened, out| {
-        put_used(alloc, opened, out)
-    })
+    make_by(alloc, Making::Used, map, out)
 }

@@ -99,6 +99,7 @@ fn text_source_of(written: &WrittenSources, i: usize, out: &mut [u8], len: &mut 
 }
 
 /// The URL of the i-th listed source.
+#[tactic(auto, using(crate::proofs::MapLemmas::listed_url))]
 fn listed_url_of(map: &SourceMap, i: usize, out: &mut [u8], len: &mut usize) -> u32
     ensures { WrittenSourceReported (mapped plain map.now.listing.sources) i out.old out.new len.new result }
 {

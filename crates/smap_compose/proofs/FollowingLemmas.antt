@@ -125,7 +125,8 @@ pub led_to_held : {H : Type 0} (held : H → ReadMap) (hs : List H) (number : Op
     → option_and_then (slice_get (map record_of (map held hs))) number ≡ found → number ≡ Some k
     → k < length hs → h ≡ get_or hs k h → m ≡ held h → found ≡ Some (record_of m)
 led_to_held held hs number found k h m named is below at same = sym named
-    ∙ ap (option_and_then (slice_get (map record_of (map held hs)))) is ∙ slice_get-map record_of (map held hs) k
+    ∙ ap (option_and_then (slice_get (map record_of (map held hs)))) is
+    ∙ slice_get-map record_of (map held hs) k
     ∙ ap (option_map record_of) (held_at held hs k h m below at same)
 
 -- an original whose source has no map stays, among the sources that are listed
@@ -133,5 +134,6 @@ pub stays_listed : (sources : List Entry) (start : ℕ) (o : OriginalView) (foun
     → found ≡ None → HoldsFrom sources start (standing_for found (entry_of_view o.source))
     → Some (origin_at sources (record { source = start; line = o.line; column = o.column; name = o.name }))
     ≡ followed_by found (origin_of_view o)
-stays_listed sources start o None is holds = rw (source_here sources start (entry_of_view o.source) holds) refl
+stays_listed sources start o None is holds =
+    rw (source_here sources start (entry_of_view o.source) holds) refl
 stays_listed sources start o (Some r) is holds = cc

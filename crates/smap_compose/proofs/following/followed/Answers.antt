@@ -47,6 +47,6 @@ returns-in-Some-clause-within g c = λ count most.
 
 pub returns-in-None-clause-followed : goal.returns-in-None-clause-followed
 returns-in-None-clause-followed g c = λ sources holds.
+    let inner = map g.H.HasMap.held_map c.args.inner.now in
     stays_listed sources _ c.args.original _ (sym c.number_of.ensures.map
-    ∙ ap (option_and_then (slice_get (map record_of (map g.H.HasMap.held_map c.args.inner.now)))) c.in-None.is)
-    holds
+    ∙ ap (option_and_then (slice_get (map record_of inner))) c.in-None.is) holds
