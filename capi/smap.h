@@ -82,7 +82,8 @@ enum {
     SMAP_RANGE = 7,      /* the number isn't below the count */
     SMAP_URL_BYTES = 8,  /* the URLs of a map's sources take more bytes than they may */
     SMAP_NOT_BASE64 = 9, /* a data: URL says that it is base64, and isn't */
-    SMAP_NOT_UTF8 = 10   /* a path or a URL isn't UTF-8 */
+    SMAP_NOT_UTF8 = 10,  /* a path or a URL isn't UTF-8 */
+    SMAP_TOO_MANY = 11   /* a composition has more sources or names than the limits allow */
 };
 
 /* Copies the name of a code into `out`, such as "out of memory", and returns its length, or 0 if the number
@@ -277,6 +278,28 @@ SMAP_INLINE uint32_t smap_listed_name(smap_map *map, size_t i, char *out, size_t
 
 /* The i-th mapping, with indices into the lists, in order of line and column. OK, RANGE, CLOSED. */
 uint32_t smap_listed_token(smap_map *map, size_t i, smap_listed_mapping *out);
+
+/* ---- maps made of maps
+ *
+ * Each of these opens `out` on a map that it makes, with the base of the map that it is made of. No text writes
+ * that map: its sources as written are their URLs, without `sourceRoot`. `out` must be another handle than
+ * those that are read, which stay as they are. */
+
+/* Composes a map with maps of its sources, where these were generated themselves: docs/FORMAT.md,
+ * "Compositions". leads[i] is the index, among the `inner_count` handles at `inner`, of the map of the source
+ * with number i; the source has none if that isn't below `inner_count`, as SIZE_MAX, or if i isn't below
+ * `leads_count`. smap_share makes handles for the array; they must be different ones, and not `outer`. NULL for
+ * `limits` means the usual ones; its `lines` isn't looked at, but must not be too large.
+ * OK; LIMITS; CLOSED: one of the handles is; TOO_MANY: the sources that stand for those of `outer`, each as often
+ * as it does, or the names that are used, are more than limits->items; MEMORY. */
+SMAP_INLINE uint32_t smap_compose(smap_map *outer, smap_map *inner, size_t inner_count, const size_t *leads,
+                                  size_t leads_count, const smap_limits *limits, smap_map *out);
+
+/* Makes a map without the mappings that change no position's original. OK, CLOSED, MEMORY. */
+uint32_t smap_thin(smap_map *map, smap_map *out);
+
+/* Makes a map without the sources that no mapping has. OK, CLOSED, MEMORY. */
+uint32_t smap_only_used(smap_map *map, smap_map *out);
 
 /* ---- bytes that are written */
 
@@ -608,6 +631,8 @@ uint32_t smap_source_content_strict(smap_map *map, size_t source, char *out, siz
 uint32_t smap_written_source_strict(smap_map *map, size_t i, char *out, size_t room, size_t *len);
 uint32_t smap_written_root_strict(smap_map *map, size_t i, char *out, size_t room, size_t *len);
 uint32_t smap_listed_name_strict(smap_map *map, size_t i, char *out, size_t room, size_t *len);
+uint32_t smap_compose_strict(smap_map *outer, smap_map *inner, size_t inner_count, const size_t *leads,
+                             size_t leads_count, const smap_limits *limits, smap_map *out);
 size_t smap_bytes_copy_strict(smap_bytes *bytes, size_t from, void *out, size_t room);
 uint32_t smap_respell_strict(const char *text, size_t len, smap_bytes *out, smap_fault *fault);
 uint32_t smap_frame_strict(const void *line, size_t len, smap_frame_parts *out);
@@ -721,6 +746,17 @@ static inline uint32_t smap_listed_name(smap_map *map, size_t i, char *out, size
     char no_out;
     size_t no_len;
     return smap_listed_name_strict(map, i, out ? out : &no_out, room, len ? len : &no_len);
+}
+
+static inline uint32_t smap_compose(smap_map *outer, smap_map *inner, size_t inner_count,
+                                    const size_t *leads, size_t leads_count, const smap_limits *limits,
+                                    smap_map *out)
+{
+    smap_map no_inner = {0, 0};
+    const size_t no_leads = {0};
+    const smap_limits no_limits = {0, 0};
+    return smap_compose_strict(outer, inner ? inner : &no_inner, inner_count, leads ? leads : &no_leads,
+                               leads_count, limits ? limits : &no_limits, out);
 }
 
 static inline size_t smap_bytes_copy(smap_bytes *bytes, size_t from, void *out, size_t room)

@@ -7,6 +7,7 @@
 
 #include <string>
 #include <utility>
+#include <vector>
 
 namespace smap {
 
@@ -231,6 +232,20 @@ inline uint32_t normal_form(const std::string &name, Bytes &out, bool with_query
 inline uint32_t alike(const std::string &one, const std::string &other, bool &out)
 {
     return smap_alike(one.data(), one.size(), other.data(), other.size(), &out);
+}
+
+/* ---- maps made of maps */
+
+/* Composes a map with maps of its sources, as smap_compose does. */
+inline uint32_t compose(Map &outer, std::vector<Map> &inner, const std::vector<size_t> &leads, Map &out,
+                        const smap_limits *limits = nullptr)
+{
+    std::vector<smap_map> handles;
+    for (Map &map : inner) handles.push_back(*map.handle());
+    uint32_t code = smap_compose(outer.handle(), handles.data(), handles.size(), leads.data(), leads.size(),
+                                 limits, out.handle());
+    for (size_t i = 0; i < inner.size(); i++) *inner[i].handle() = handles[i];
+    return code;
 }
 
 } // namespace smap

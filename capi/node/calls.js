@@ -245,6 +245,41 @@ function callsOf(x, host) {
     return mapOut(box);
   };
 
+  // The map that a call makes.
+  function made(run) {
+    const box = block(HANDLE);
+    let isOpen = false;
+    try {
+      check(run(box));
+      isOpen = true;
+    } finally {
+      if (!isOpen && !isBroken) call.free(box);
+    }
+    return mapOut(box);
+  }
+
+  native.thin = map => {
+    const from = mapOf(map);
+    return made(box => call.thin(from, box));
+  };
+
+  native.onlyUsed = map => {
+    const from = mapOf(map);
+    return made(box => call.only_used(from, box));
+  };
+
+  native.compose = (map, maps, leads, items) => {
+    const outer = mapOf(map), inner = maps.map(mapOf), most = number(items), n = inner.length;
+    const room = block(8 * n + 4 * words(leads).length + 8), last = room + 8 * n;
+    try {
+      new BigUint64Array(x.memory.buffer, room, n).set(inner.map(BigInt));
+      new Uint32Array(x.memory.buffer, last, leads.length).set(leads);
+      return made(box => call.compose(outer, room, n, last, leads.length, most, box));
+    } finally {
+      if (!isBroken) call.free(room);
+    }
+  };
+
   // There is no other thread that could read it.
   native.openLater = async (...given) => native.open(...given.slice(0, 5));
 

@@ -51,6 +51,8 @@ pub enum Error {
     Memory,
     /// The URLs of the sources take more bytes than they may.
     UrlBytes,
+    /// A composition has more sources or names than it may.
+    TooMany,
 }
 
 impl Error {
@@ -62,6 +64,7 @@ impl Error {
             Error::Limits => LIMITS,
             Error::Memory => MEMORY,
             Error::UrlBytes => URL_BYTES,
+            Error::TooMany => TOO_MANY,
         }
     }
 }
@@ -96,6 +99,7 @@ fn error(code: u32, fault: &raw::Fault) -> Error {
         NOT_URL => Error::NotUrl,
         LIMITS => Error::Limits,
         URL_BYTES => Error::UrlBytes,
+        TOO_MANY => Error::TooMany,
         _ => Error::Memory,
     }
 }
@@ -435,6 +439,7 @@ impl TraceOptions {
 }
 
 /// A source map. Its handle is in a cell, since each call has its handle to itself while it runs.
+#[repr(transparent)]
 pub struct Map(UnsafeCell<raw::Map>);
 
 // The library proves that what a handle owns may be read and freed in any thread.
@@ -495,6 +500,43 @@ impl Map {
             unsafe { smap_same(self.0.get(), other.0.get(), &mut out) };
         }
         out
+    }
+
+    /// The map that a call makes of this one.
+    fn made(&self, call: impl FnOnce(*mut raw::Map, *mut raw::Map) -> u32) -> Result<Map, Error> {
+        let made = Map::closed();
+        let code = call(self.0.get(), made.0.get());
+        if code == OK { Ok(made) } else { Err(error(code, &raw::Fault::default())) }
+    }
+
+    /// One map out of this one and maps of its sources, where these were generated themselves: pairs of a
+    /// source's number and its map. Each mapping stays, with the original that a lookup in its source's map
+    /// has. Of the limits `items` counts.
+    ///
+    /// # Panics
+    ///
+    /// A number isn't that of a source.
+    pub fn compose(&self, maps: &[(usize, &Map)], limits: Limits) -> Result<Map, Error> {
+        let mut leads = vec![usize::MAX; self.counts().sources];
+        let shares: Vec<Map> = maps.iter().map(|(_, map)| map.share()).collect::<Result<_, _>>()?;
+        for (i, (source, _)) in maps.iter().enumerate() {
+            leads[*source] = i;
+        }
+        // an owner is its handle, so these lie as an array of handles does
+        let inner = shares.as_ptr() as *mut raw::Map;
+        self.made(|map, out| unsafe {
+            smap_compose(map, inner, shares.len(), leads.as_ptr(), leads.len(), &limits, out)
+        })
+    }
+
+    /// The map without the mappings that change no position's original.
+    pub fn thinned(&self) -> Result<Map, Error> {
+        self.made(|map, out| unsafe { smap_thin(map, out) })
+    }
+
+    /// The map without the sources that no mapping has.
+    pub fn used(&self) -> Result<Map, Error> {
+        self.made(|map, out| unsafe { smap_only_used(map, out) })
     }
 
     pub fn counts(&self) -> Counts {
@@ -705,6 +747,7 @@ mod raw {
     pub const URL_BYTES: u32 = 8;
     pub const NOT_BASE64: u32 = 9;
     pub const NOT_UTF8: u32 = 10;
+    pub const TOO_MANY: u32 = 11;
     pub const FAULT_PREFIX: u32 = 1;
     pub const FAULT_JSON: u32 = 2;
     pub const FAULT_NOT_OBJECT: u32 = 3;
@@ -919,6 +962,12 @@ mod raw {
         pub fn smap_written_root(map: *mut Map, i: usize, out: *mut u8, room: usize, len: *mut usize) -> u32;
         pub fn smap_listed_name(map: *mut Map, i: usize, out: *mut u8, room: usize, len: *mut usize) -> u32;
         pub fn smap_listed_token(map: *mut Map, i: usize, out: *mut ListedMapping) -> u32;
+        pub fn smap_compose(
+            outer: *mut Map, inner: *mut Map, inner_count: usize, leads: *const usize, leads_count: usize,
+            limits: *const Limits, out: *mut Map,
+        ) -> u32;
+        pub fn smap_thin(map: *mut Map, out: *mut Map) -> u32;
+        pub fn smap_only_used(map: *mut Map, out: *mut Map) -> u32;
         pub fn smap_bytes_data(bytes: *mut Bytes, at: *mut *const u8, len: *mut usize) -> u32;
         pub fn smap_bytes_copy(bytes: *mut Bytes, from: usize, out: *mut u8, room: usize) -> usize;
         pub fn smap_bytes_free(bytes: *mut Bytes);

@@ -4,7 +4,7 @@
 
 static void closed_handles(void)
 {
-    smap_map closed = {0}, open = {0};
+    smap_map closed = {0}, open = {0}, other = {0};
     smap_bytes bytes = {0};
     smap_mapping m = {0};
     smap_listed_mapping listed;
@@ -35,6 +35,10 @@ static void closed_handles(void)
     CHECK(smap_flatten(&closed, &bytes) == SMAP_CLOSED && !bytes.is_open);
     CHECK(smap_translate_line(&closed, NULL, 0, NULL, 0, false, NULL, 0, NULL, &outcome) == SMAP_CLOSED);
     CHECK(smap_share(&closed, &open) == SMAP_CLOSED && open.is_open);
+    CHECK(smap_compose(&closed, NULL, 0, NULL, 0, NULL, &open) == SMAP_CLOSED && open.is_open);
+    CHECK(smap_compose(&open, &closed, 1, NULL, 0, NULL, &other) == SMAP_CLOSED && !other.is_open);
+    CHECK(smap_thin(&closed, &open) == SMAP_CLOSED && open.is_open);
+    CHECK(smap_only_used(&closed, &open) == SMAP_CLOSED && open.is_open);
     CHECK(smap_same(&closed, &open, &flag) == SMAP_CLOSED && open.is_open);
     CHECK(smap_same(&open, &closed, &flag) == SMAP_CLOSED && open.is_open && flag);
     CHECK(smap_bytes_data(&bytes, &at, &len) == SMAP_CLOSED && len == 0 && at == NULL);
@@ -61,7 +65,7 @@ static void buffers(smap_map *map)
     CHECK(smap_name_at(map, 0, 1, room, 0, &len) == SMAP_OK && len == 1 && room[0] == 'x');
     CHECK(smap_code_name(SMAP_MEMORY, room, 3) == 13 && memcmp(room, "out.js", 6) == 0);
     CHECK(smap_code_name(SMAP_NONE + 100, NULL, 0) == 0);
-    for (uint32_t code = SMAP_OK; code <= SMAP_NOT_UTF8; code++) CHECK(smap_code_name(code, NULL, 0) > 3);
+    for (uint32_t code = SMAP_OK; code <= SMAP_TOO_MANY; code++) CHECK(smap_code_name(code, NULL, 0) > 3);
     CHECK(smap_fault_name(SMAP_FAULT_OVERLAP, room, sizeof room) == 7 && memcmp(room, "Overlap", 7) == 0);
     CHECK(smap_fault_name(SMAP_FAULT_SOURCE_URL, room, 3) == 9 && memcmp(room, "Sourlap", 7) == 0);
     uint32_t kinds = 0;
@@ -69,6 +73,48 @@ static void buffers(smap_map *map)
     CHECK(kinds >= SMAP_FAULT_NAME);
     CHECK(smap_fault_name(0, NULL, 0) == 0 && smap_fault_name(kinds + 1, NULL, 0) == 0);
     CHECK(smap_fault_name(kinds + 100, NULL, 0) == 0);
+}
+
+/* The source a.js has 10:2, for which its map has a.ts 1:0; and 12:2, for which it has nothing. */
+static void made_of(smap_map *map)
+{
+    smap_map inner[2] = {{0}}, out = {0};
+    smap_limits limits = {3, 0};
+    smap_counts counts;
+    smap_mapping m = {0};
+    size_t leads[3] = {1, SIZE_MAX, 2}, n = 9;
+    bool same = false;
+    CHECK(open_text(&inner[1], "{\"version\":3,\"sources\":[\"a.ts\",\"c.ts\"],\"mappings\":"
+                               "\";;;;;;;;;;AACA\"}", NULL) == SMAP_OK);
+    CHECK(smap_compose(map, inner, 2, leads, 3, NULL, &out) == SMAP_CLOSED && inner[1].is_open);
+    CHECK(smap_share(&inner[1], &inner[0]) == SMAP_OK);
+    CHECK(smap_compose(map, inner, 2, leads, 3, &limits, &out) == SMAP_TOO_MANY && !out.is_open);
+    limits.lines = 16777217;
+    CHECK(smap_compose(map, inner, 2, leads, 3, &limits, &out) == SMAP_LIMITS && !out.is_open);
+    limits = (smap_limits){4, 1};
+    CHECK(smap_compose(map, inner, 2, leads, 3, &limits, &out) == SMAP_OK && out.is_open);
+    CHECK(inner[0].is_open && inner[1].is_open && map->is_open);
+    CHECK(smap_count(&out, &counts) == SMAP_OK && counts.sources == 4 && counts.mappings == 4);
+    CHECK(smap_lookup(&out, 0, 3, &m) == SMAP_OK && m.source == 0 && m.source_line == 1 && m.has_name);
+    CHECK(smap_lookup(&out, 0, 4, &m) == SMAP_OK && !m.has_source);
+    CHECK(smap_written_source(&out, 1, NULL, 0, &n) == SMAP_OK && n == strlen("http://h/m/c.ts"));
+    CHECK(smap_written_source(&out, 3, NULL, 0, &n) == SMAP_NONE && n == 0);
+    CHECK(smap_written_source(&out, 4, NULL, 0, &n) == SMAP_RANGE && n == 0);
+    CHECK(smap_written_root(&out, 3, NULL, 0, &n) == SMAP_NONE && n == 0);
+    CHECK(smap_written_root(&out, 4, NULL, 0, &n) == SMAP_RANGE);
+    /* As for another map, without sources as written: the base; "out.js", three URLs, "f" alone of names. */
+    CHECK(smap_held(&out, &n) == SMAP_OK);
+    CHECK(n == (648 + 24) + 5 * 24 + (784 + 4 * 8 + 4 * 24 + 4 * 32) + 3 * 8);
+    CHECK(smap_only_used(&out, &inner[0]) == SMAP_OK && smap_count(&inner[0], &counts) == SMAP_OK);
+    CHECK(counts.sources == 2);
+    CHECK(smap_thin(&out, &inner[0]) == SMAP_OK && smap_count(&inner[0], &counts) == SMAP_OK);
+    CHECK(counts.sources == 4 && counts.mappings == 4);
+    CHECK(smap_compose(map, inner, 2, leads, 0, NULL, &out) == SMAP_OK);
+    CHECK(smap_same(map, &out, &same) == SMAP_OK && same);
+    CHECK(smap_compose(map, NULL, 0, leads, 3, NULL, &out) == SMAP_OK);
+    CHECK(smap_same(map, &out, &same) == SMAP_OK && same);
+    for (size_t i = 0; i < 2; i++) smap_close(&inner[i]);
+    smap_close(&out);
 }
 
 static void numbers(smap_map *map)
@@ -619,6 +665,7 @@ int main(void)
     faults();
     bytes_of_urls();
     many_times_a_root();
+    made_of(&map);
     CHECK(smap_share(&map, &other) == SMAP_OK && smap_same(&map, &other, &same) == SMAP_OK && same);
     CHECK(open_text(&other, "{\"version\":3,\"mappings\":\"\"}", NULL) == SMAP_OK);
     CHECK(smap_same(&map, &other, &same) == SMAP_OK && !same);

@@ -41,6 +41,33 @@ class ModuleTest(unittest.TestCase):
         self.assertIsNone(self.map.lookup(1, 2).source)
         self.assertIsNone(self.map.lookup(2, 0))
 
+    def test_maps_are_composed(self):
+        """What the rows of chains don't ask: URLs and numbers, limits, errors, and sources as written."""
+        inner = smap.Map.open(
+            b'{"version":3,"sources":["a.ts","c.ts"],"mappings":";;;;;;;;;;AACA"}', "http://h/m/a.js.map"
+        )
+        made = self.map.compose({"http://h/m/a.js": inner}, items=4)
+        self.assertTrue(made.same(self.map.compose({0: inner})))
+        self.assertEqual((made.lookup(0, 3).url, made.lookup(0, 3).name), ("http://h/m/a.ts", "f"))
+        self.assertIsNone(made.find(0, 4).source)
+        urls = ["http://h/m/a.ts", "http://h/m/c.ts", "http://h/m/b.js", None]
+        self.assertEqual(made.written_sources(), [(url, None) for url in urls])
+        self.assertEqual(made.used().counts().sources, 2)
+        self.assertEqual(made.thinned().counts().mappings, 4)
+        self.assertTrue(self.map.compose({}).same(self.map))
+        self.assertTrue(self.map.compose({2: self.map}).same(self.map.compose({2: self.map.share()})))
+        with self.assertRaises(smap.Error) as caught:
+            self.map.compose({0: inner}, items=3)
+        self.assertEqual((caught.exception.code, str(caught.exception)), (11, "too many sources or names"))
+        self.assertRaises(KeyError, self.map.compose, {"a.js": inner})
+        self.assertRaises(IndexError, self.map.compose, {3: inner})
+        self.assertRaises(IndexError, self.map.compose, {-1: inner})
+        self.assertRaises(ValueError, self.map.compose, {0: inner}, items=-1)
+        inner.close()
+        with self.assertRaises(smap.Error) as caught:
+            self.map.compose({0: inner})
+        self.assertEqual(caught.exception.code, 5)
+
     def test_sources_and_mappings_go_by_number(self):
         self.assertEqual(self.map.source(0), smap.Source("http://h/m/a.js", "x\ny", False))
         self.assertEqual(self.map.source(1), smap.Source("http://h/m/b.js", None, True))

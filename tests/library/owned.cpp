@@ -48,6 +48,13 @@ int main()
     CHECK(smap::code_name(SMAP_CLOSED) == "closed handle");
     CHECK(smap::fault_name(SMAP_FAULT_NOT_OBJECT) == "NotObject" && smap::fault_name(0) == "");
     CHECK(smap::open(last, "[]", base, &fault) == SMAP_REFUSED && std::string(fault.text) == "not an object");
+    std::vector<smap::Map> inner(1);
+    const std::string one = "{\"version\":3,\"sources\":[\"a.ts\"],\"mappings\":\";;;;;;;;;;AACA\"}";
+    CHECK(smap::open(inner[0], one, base) == SMAP_OK);
+    CHECK(smap::compose(last, inner, std::vector<size_t>(1, 0), map) == SMAP_OK && inner[0].is_open());
+    CHECK(smap_canonical_mappings(map.handle(), bytes.handle()) == SMAP_OK && smap::text(bytes) == "AACAA");
+    CHECK(smap::compose(last, inner, std::vector<size_t>(), map) == SMAP_OK);
+    CHECK(smap_canonical_mappings(map.handle(), bytes.handle()) == SMAP_OK && smap::text(bytes) == "AAUEA");
     bool alike = false;
     CHECK(smap::script_link("//# sourceMappingURL=a.map\n", out) == SMAP_OK && out == "a.map");
     CHECK(smap::script_link("//# sourceMappingURL=a.map", out, true) == SMAP_NONE && out == "");

@@ -24,7 +24,7 @@ void *__wrap_realloc(void *old, size_t size)
     return is_refused() ? NULL : __real_realloc(old, size);
 }
 
-static smap_map map, other;
+static smap_map map, inner, other;
 static smap_bytes out;
 static smap_scripts scripts, empty;
 static smap_fault fault;
@@ -57,6 +57,22 @@ static uint32_t open_beyond(void)
 static uint32_t share(void)
 {
     return smap_share(&map, &other);
+}
+
+static uint32_t compose(void)
+{
+    static const size_t leads[1] = {0};
+    return smap_compose(&map, &inner, 1, leads, 1, NULL, &other);
+}
+
+static uint32_t thin(void)
+{
+    return smap_thin(&map, &other);
+}
+
+static uint32_t only_used(void)
+{
+    return smap_only_used(&map, &other);
 }
 
 static uint32_t canonical(void)
@@ -245,6 +261,11 @@ int main(void)
     refuse("open within a bound", open_within, SMAP_OK);
     refuse("open beyond a bound", open_beyond, SMAP_URL_BYTES);
     refuse("share", share, SMAP_OK);
+    CHECK(smap_share(&map, &inner) == SMAP_OK);
+    refuse("compose", compose, SMAP_OK);
+    smap_close(&inner);
+    refuse("thin", thin, SMAP_OK);
+    refuse("only used", only_used, SMAP_OK);
     refuse("canonical", canonical, SMAP_OK);
     refuse("canonical, relative", relative, SMAP_OK);
     refuse("canonical mappings", mappings, SMAP_OK);

@@ -1,5 +1,5 @@
 /* The commands of the program smap that ask one map or one mappings text, or translate a bundle, over the C
- * library: the tables of tests/rows/ are run over this (tests/library/run). */
+ * library, or compose a chain: the tables of tests/rows/ are run over this (tests/library/run). */
 #include "smap.h"
 
 #include <stdio.h>
@@ -102,6 +102,75 @@ static uint8_t how_by(int argc, char **argv)
     return how;
 }
 
+/* The maps of a chain, each with the URL of its script. */
+enum { LINKS = 8 };
+static const char *urls[LINKS];
+static size_t url_lens[LINKS];
+static smap_map links[LINKS];
+
+static char *add_link(size_t i, char *entry)
+{
+    char *url = strchr(entry, ' ') + 1, *base = strchr(url, ' ') + 1, *number = strchr(base, ' ') + 1, *text;
+    size_t len = strtoul(number, &text, 10);
+    urls[i] = url;
+    url_lens[i] = (size_t)(base - url - 1);
+    if (smap_open(&links[i], text + 1, len, base, (size_t)(number - base - 1), NULL, NULL) != SMAP_OK) exit(3);
+    return text + 1 + len + 1;
+}
+
+/* The index, among the links behind the i-th, of the first whose script a source of this one is. */
+static size_t lead(size_t i, size_t count, size_t source)
+{
+    char url[256];
+    size_t len, k = i + 1;
+    if (smap_source_url(&links[i], source, url, sizeof url, &len) != SMAP_OK) return SIZE_MAX;
+    while (k < count && (len != url_lens[k] || memcmp(url, urls[k], len))) k++;
+    return k - (i + 1);
+}
+
+/* Puts the composition of a link with those behind it in its place. */
+static void close_link(size_t i, size_t count)
+{
+    size_t leads[LINKS];
+    smap_counts counts;
+    smap_map out = {0};
+    if (smap_count(&links[i], &counts) != SMAP_OK || counts.sources > LINKS) exit(3);
+    for (size_t k = 0; k < counts.sources; k++) leads[k] = lead(i, count, k);
+    if (smap_compose(&links[i], &links[i + 1], count - i - 1, leads, counts.sources, NULL, &out) != SMAP_OK)
+        exit(3);
+    smap_close(&links[i]);
+    links[i] = out;
+}
+
+/* Puts what a call makes of the first link in its place. */
+static void remake(uint32_t (*call)(smap_map *map, smap_map *out))
+{
+    smap_map out = {0};
+    if (call(&links[0], &out) != SMAP_OK) exit(3);
+    smap_close(&links[0]);
+    links[0] = out;
+}
+
+static int compose(int argc, char **argv)
+{
+    smap_bytes out = {0};
+    bool relative = false;
+    size_t len, count = 0;
+    char *text = read_input(&len), *rest = text;
+    while (strncmp(rest, "end\n", 4) != 0 && count + 1 < LINKS) rest = add_link(count++, rest);
+    for (size_t i = count; i > 0; i--) close_link(i - 1, count);
+    for (int i = 2; i < argc; i++) {
+        if (!strcmp(argv[i], "--thin")) remake(smap_thin);
+        if (!strcmp(argv[i], "--used")) remake(smap_only_used);
+        if (!strcmp(argv[i], "--relative")) relative = true;
+    }
+    int status = write_bytes(relative ? smap_canonical_relative(&links[0], &out)
+                                      : smap_canonical(&links[0], &out), &out);
+    for (size_t i = 0; i < count; i++) smap_close(&links[i]);
+    free(text);
+    return status;
+}
+
 static int check(smap_map *map)
 {
     smap_counts counts;
@@ -174,6 +243,7 @@ int main(int argc, char **argv)
     const char *base = argv[relative ? 3 : 2];
     char *text;
     if (argc == 2 && !strcmp(argv[1], "respell")) return respell();
+    if (argc > 1 && !strcmp(argv[1], "compose")) return compose(argc, argv);
     if (argc > 1 && !strcmp(argv[1], "translate")) return translate(how_by(argc, argv));
     if (argc < 3) return 2;
     text = read_input(&len);

@@ -40,6 +40,24 @@ def translated(data, flags):
     return scripts.translate(data[6:], hide, anywhere=anywhere, ignore_query=ignore_query, names=names)[0]
 
 
+def composed(data, flags):
+    links = []
+    while data != b"end\n":
+        header, _, data = data.partition(b"\n")
+        _, url, base, length = header.decode().split(" ")
+        links.append((url, smap.Map.open(data[: int(length)], base)))
+        data = data[int(length) + 1 :]
+    later = {}
+    for url, link in reversed(links):
+        found = {i: later.get(link.url(i)) for i in range(link.counts().sources)}
+        later[url] = composed = link.compose({i: inner for i, inner in found.items() if inner})
+    if "--thin" in flags:
+        composed = composed.thinned()
+    if "--used" in flags:
+        composed = composed.used()
+    return composed.canonical("--relative" in flags)
+
+
 def named(data):
     return b"".join(b"%d %s\n" % (lines, url) for url, lines in smap.named_scripts(data).items())
 
@@ -49,6 +67,8 @@ def answer(words, data):
         return named(data)
     if words[0] == "translate":
         return translated(data, words[1:])
+    if words[0] == "compose":
+        return composed(data, words[1:])
     if words[0] == "respell":
         return smap.respell(data[:-1] if data.endswith(b"\n") else data) + b"\n"
     relative = words[1] == "--relative"

@@ -3,7 +3,8 @@
 #[path = "../../capi/rust/smap.rs"]
 mod smap;
 
-use smap::{Error, Map, TraceOptions};
+use smap::{Error, Limits, Map, TraceOptions};
+use std::collections::HashMap;
 use std::io::{Read, Write};
 
 /// A name as JSON writes it.
@@ -66,11 +67,44 @@ fn translated(mut data: &[u8], flags: &[String]) -> Result<Vec<u8>, Error> {
     scripts.translate(&data[6..], options).map(|told| told.0)
 }
 
+/// The maps of a chain, the last first, as one.
+fn composed(mut data: &[u8], flags: &[String]) -> Result<Vec<u8>, Error> {
+    let mut links = Vec::new();
+    while data != b"end\n" {
+        let end = data.iter().position(|&byte| byte == b'\n').unwrap();
+        let header: Vec<&str> = std::str::from_utf8(&data[..end]).unwrap().split(' ').collect();
+        let length: usize = header[3].parse().unwrap();
+        links.push((header[1], Map::open(&data[end + 1..][..length], header[2])?));
+        data = &data[end + 1 + length + 1..];
+    }
+    let mut later: HashMap<String, Map> = HashMap::new();
+    let mut last = None;
+    for (url, link) in links.iter().rev() {
+        let urls = (0..link.counts().sources).map(|i| (i, link.url(i).unwrap_or_default()));
+        let inner: Vec<_> = urls.filter_map(|(i, source)| Some((i, later.get(&source)?))).collect();
+        let map = link.compose(&inner, Limits::default())?;
+        last = Some(map.share()?);
+        later.insert(url.to_string(), map);
+    }
+    let is_set = |flag| flags.iter().any(|given| given == flag);
+    let mut map = last.unwrap();
+    if is_set("--thin") {
+        map = map.thinned()?;
+    }
+    if is_set("--used") {
+        map = map.used()?;
+    }
+    if is_set("--relative") { map.canonical_relative() } else { map.canonical() }
+}
+
 fn answer(words: &[String], data: &[u8]) -> Result<Vec<u8>, Error> {
     if words[0] == "respell" {
         let mut text = smap::respell(data.strip_suffix(b"\n").unwrap_or(data))?;
         text.push(b'\n');
         return Ok(text);
+    }
+    if words[0] == "compose" {
+        return composed(data, &words[1..]);
     }
     if words[0] == "translate" {
         return translated(data, &words[1..]);

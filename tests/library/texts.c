@@ -102,6 +102,11 @@ static void strictly(smap_map *map)
     CHECK(smap_open_strict(map, text, strlen(text), base, strlen(base), &usual, &fault) == SMAP_OK);
     CHECK(smap_source_url_strict(map, 0, url, sizeof url, &len) == SMAP_OK && len == 15);
     CHECK(memcmp(url, "http://h/m/a.js", 15) == 0);
+    smap_map inner = {0}, made = {0};
+    CHECK(smap_share(map, &inner) == SMAP_OK);
+    CHECK(smap_compose_strict(map, &inner, 1, &len, 1, &usual, &made) == SMAP_OK && made.is_open);
+    smap_close(&inner);
+    smap_close(&made);
 }
 
 int main(void)

@@ -153,6 +153,20 @@ fn errors(map: &Map) -> Result<(), Error> {
     Ok(())
 }
 
+/// What the rows of chains don't ask.
+fn compositions(map: &Map) -> Result<(), Error> {
+    let inner = Map::open(br#"{"version":3,"sources":["a.ts","c.ts"],"mappings":";;;;;;;;;;AACA"}"#, BASE)?;
+    let made = map.compose(&[(0, &inner)], Limits { items: 4, lines: 0 })?;
+    let found = made.lookup(0, 3).unwrap();
+    assert_eq!((found.source, found.source_line, made.lookup(0, 4).unwrap().source), (Some(0), 1, None));
+    assert_eq!((made.written_source(1).as_deref(), made.written_root(1)), (Some("http://h/m/c.ts"), None));
+    let beyond = map.compose(&[(0, &inner)], Limits { items: 3, lines: 0 }).err().unwrap();
+    assert_eq!((beyond.code(), beyond.to_string().as_str()), (11, "too many sources or names"));
+    assert_eq!(made.used()?.counts().sources, 2);
+    assert!(map.compose(&[], Limits::default())?.same(map));
+    Ok(())
+}
+
 fn names_of_maps() {
     let named = |text: &[u8]| smap::named_map(b"http://h/m/", b"a.js", text).unwrap();
     let rows: [(&[u8], Named); 8] = [
@@ -185,6 +199,7 @@ fn main() -> Result<(), Error> {
     traces(&map)?;
     options(&map)?;
     errors(&map)?;
+    compositions(&map)?;
     fields()?;
     fields_of_a_fault();
     names_of_maps();

@@ -42,17 +42,20 @@ def inline_function(function, header):
     """NAME, which calls NAME_strict with something in place of each NULL that it allows."""
     structs = {struct.name: struct for struct in header.structs}
     lines, words = [], []
+    names = {one.name for one in function.parameters}
     for name, kind in function.parameters:
         is_buffer = kind.name in ("char", "void")
-        is_handle = kind.name in structs and structs[kind.name].is_handle()
+        is_handle = kind.name in structs and structs[kind.name].is_handle() and f"{name}_count" not in names
         if not kind.pointers or is_handle or name == "out" and not is_buffer:
             words.append(name)
         elif is_buffer and kind.pointers[0]:
             words.append(f"{name} ? {name} : smap_no_text_")
         else:
             words.append(f"{name} ? {name} : &no_{name}")
-            zeros = ", ".join("0" for _ in structs[kind.name].fields) if kind.pointers[0] else ""
-            start = f"const {kind.name}" if zeros else "char" if is_buffer else kind.name
+            fields = structs[kind.name].fields if kind.name in structs else [name]
+            zeros = ", ".join("0" for _ in fields) if kind.pointers[0] or f"{name}_count" in names else ""
+            is_const = "const " if kind.pointers[0] else ""
+            start = f"{is_const}{kind.name}" if zeros else "char" if is_buffer else kind.name
             lines.append(f"    {start} no_{name}" + (f" = {{{zeros}}};" if zeros else ";"))
     lines.append(below(f"    return {function.name}_strict(", words, ");"))
     start = prototype("static inline ", function, function.name, function.parameters)

@@ -20,6 +20,7 @@ static const char *const codes[] = {
     [SMAP_URL_BYTES] = "SMAP_URL_BYTES",
     [SMAP_NOT_BASE64] = "SMAP_NOT_BASE64",
     [SMAP_NOT_UTF8] = "SMAP_NOT_UTF8",
+    [SMAP_TOO_MANY] = "SMAP_TOO_MANY",
 };
 
 static inline const char *code_of(uint32_t code)
@@ -128,6 +129,26 @@ static inline uint32_t put_table(smap_map *map, uint32_t *to, size_t from, size_
         for (size_t k = 0; k < 6; k++) to[i + k * count] = row[k];
     }
     return SMAP_OK;
+}
+
+/* Composes a map with maps of its sources, any of which may be one map. */
+static inline uint32_t compose_maps(smap_map *outer, smap_map **inner, size_t count, const uint32_t *leads,
+                                    size_t leads_count, uint32_t items, smap_map *out)
+{
+    smap_limits limits = {items, 0};
+    smap_map *shares = malloc((count + 1) * sizeof *shares);
+    size_t *numbers = malloc((leads_count + 1) * sizeof *numbers), shared = 0;
+    uint32_t code = shares && numbers ? SMAP_OK : SMAP_MEMORY;
+    for (; shared < count && code == SMAP_OK; shared++) {
+        shares[shared] = (smap_map){0};
+        code = smap_share(inner[shared], &shares[shared]);
+    }
+    for (size_t i = 0; i < leads_count && code == SMAP_OK; i++) numbers[i] = leads[i];
+    if (code == SMAP_OK) code = smap_compose(outer, shares, count, numbers, leads_count, &limits, out);
+    while (shared > 0) smap_close(&shares[--shared]);
+    free(numbers);
+    free(shares);
+    return code;
 }
 
 /* Whether two maps mean the same. They may be one. */

@@ -164,7 +164,8 @@ typedef struct call {
 } call;
 
 /* Those of a file, which end with one that has no name. */
-extern const call map_calls[], later_calls[], question_calls[], getter_calls[], trace_calls[], link_calls[];
+extern const call map_calls[], later_calls[], making_calls[], question_calls[], getter_calls[], trace_calls[];
+extern const call link_calls[];
 #ifdef SMAP_NODE_TEST
 extern const call test_calls[];
 #endif

@@ -110,7 +110,7 @@ test('the names of kinds and codes are those of the header', is, () => {
   const codes = [...text.matchAll(/^ {4}(SMAP_[A-Z0-9_]+) = \d+,? +\/\*/gm)].map(match => match[1])
     .filter(name => !/FAULT|KEPT|HIDE|ANYWHERE|IGNORE|NAMED|FILE/.test(name));
   assert.deepEqual([...source.matchAll(/\[(SMAP_(?!FAULT)\w+)\] = "\1"/g)].map(match => match[1]), codes);
-  assert.equal(codes.length, 11);
+  assert.equal(codes.length, 12);
   const given = /type SmapErrorCode =([^;]*);/.exec(types)[1].match(/SMAP_\w+/g);
   const thrown = codes.filter(code => !['SMAP_OK', 'SMAP_NONE'].includes(code));
   assert.deepEqual(given, thrown);

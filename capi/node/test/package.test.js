@@ -35,7 +35,8 @@ test('each condition has types of its own kind', () => {
 test('import gives the names that require gives', async () => {
   for (const [name, entry] of Object.entries(about.exports)) {
     if (!entry.import) continue;
-    const required = require(path.join(PACKAGE, entry.require.default));
+    const given = require(path.join(PACKAGE, entry.require.default));
+    const required = typeof given === 'function' ? { default: given } : given;
     const imported = await import(path.join(PACKAGE, entry.import.default));
     assert.deepEqual(Object.keys(imported).sort(), Object.keys(required).sort(), name);
     for (const key of Object.keys(imported)) assert.equal(imported[key], required[key], key);

@@ -3,10 +3,16 @@ import { SourceMap, version } from 'smap';
 import { TraceMap } from 'smap/trace-mapping';
 import { SourceMapConsumer } from 'smap/source-map';
 import { install } from 'smap/support';
+import remapping, { type SourceMapLoader } from 'smap/remapping';
 import 'smap/register';
 
 const bytes: Buffer = new SourceMap('{}', 'http://h/').canonical({ buffer: true });
 console.log(bytes, version, TraceMap, SourceMapConsumer, install);
+
+const load: SourceMapLoader = (file, { depth }) => (depth > 1 ? null : { file });
+const mappings: unknown = remapping('{}', load, { decodedMappings: true }).mappings;
+const composed: SourceMap = new SourceMap('{}', 'http://h/').compose({}, { limits: { items: 1 } }).thinned().used();
+console.log(mappings, composed);
 
 // @ts-expect-error: no default export
 import smap from 'smap';

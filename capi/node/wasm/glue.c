@@ -4,13 +4,15 @@
  * which stays where it is. Functions return a code unless stated otherwise. Nothing here may be called by a
  * pointer, or have the attribute export_name: either makes a table, and V8 before 13.3 takes none whose size
  * has 64 bits. The linker exports what begins with js_. */
-#define SMAP_NO_INLINE
-#include "../native/library.h"
+#include <stddef.h>
 
 void *malloc(size_t n);
 void *realloc(void *at, size_t n);
 void free(void *at);
 void *memset(void *to, int byte, size_t n);
+
+#define SMAP_NO_INLINE
+#include "../native/library.h"
 
 #define AT(type, at) ((type *)(size_t)(at))
 
@@ -145,6 +147,24 @@ void js_close(double box)
 uint32_t js_share(double one, double other)
 {
     return smap_share(AT(smap_map, one), AT(smap_map, other));
+}
+
+uint32_t js_thin(double box, double to)
+{
+    return smap_thin(AT(smap_map, box), AT(smap_map, to));
+}
+
+uint32_t js_only_used(double box, double to)
+{
+    return smap_only_used(AT(smap_map, box), AT(smap_map, to));
+}
+
+/* `inner` points to as many pointers. */
+uint32_t js_compose(double outer, double inner, double count, double leads, double leads_count, uint32_t items,
+                    double to)
+{
+    return compose_maps(AT(smap_map, outer), AT(smap_map *, inner), (size_t)count, AT(uint32_t, leads),
+                        (size_t)leads_count, items, AT(smap_map, to));
 }
 
 /* How many bytes a map holds. */

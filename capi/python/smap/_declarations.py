@@ -19,6 +19,7 @@ RANGE = 7
 URL_BYTES = 8
 NOT_BASE64 = 9
 NOT_UTF8 = 10
+TOO_MANY = 11
 FAULT_PREFIX = 1
 FAULT_JSON = 2
 FAULT_NOT_OBJECT = 3
@@ -158,6 +159,12 @@ FUNCTIONS: List[Tuple[Any, ...]] = [
     ("smap_written_root", c_uint32, POINTER(Map), c_size_t, c_char_p, c_size_t, POINTER(c_size_t)),
     ("smap_listed_name", c_uint32, POINTER(Map), c_size_t, c_char_p, c_size_t, POINTER(c_size_t)),
     ("smap_listed_token", c_uint32, POINTER(Map), c_size_t, POINTER(ListedMapping)),
+    (
+        "smap_compose", c_uint32, POINTER(Map), POINTER(Map), c_size_t, POINTER(c_size_t), c_size_t,
+        POINTER(Limits), POINTER(Map),
+    ),
+    ("smap_thin", c_uint32, POINTER(Map), POINTER(Map)),
+    ("smap_only_used", c_uint32, POINTER(Map), POINTER(Map)),
     ("smap_bytes_data", c_uint32, POINTER(Bytes), POINTER(POINTER(c_uint8)), POINTER(c_size_t)),
     ("smap_bytes_copy", c_size_t, POINTER(Bytes), c_size_t, c_char_p, c_size_t),
     ("smap_bytes_free", None, POINTER(Bytes)),

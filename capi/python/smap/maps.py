@@ -5,12 +5,12 @@ from __future__ import annotations
 import os
 from ctypes import byref, c_bool, c_size_t, c_uint32, create_string_buffer
 from dataclasses import dataclass
-from typing import AnyStr, Callable, Iterator, List, Optional, Tuple, Union
+from typing import AnyStr, Callable, Dict, Iterator, List, Optional, Tuple, Union
 
 from . import _declarations as declared
 from ._declarations import DROPPED, NONE
-from ._library import Counts, Owner, are_position, as_data, as_url, bound_of, check, how_bits, index_of, lib
-from ._library import limit_of, taken, written
+from ._library import LARGEST_SIZE, Counts, Owner, are_position, as_data, as_url, bound_of, check, how_bits
+from ._library import index_of, lib, limit_of, taken, written
 from .files import read_file
 from .links import file_url
 from .traces import translate
@@ -138,6 +138,53 @@ class Map(Owner):
             if n.value <= room:
                 return out.raw[: n.value].decode()
             room = n.value
+
+    # ---- maps made of maps
+
+    def _made(self, call: Callable[..., int], *words: object) -> Map:
+        made = Map()
+        check(self._call(call, *words, byref(made._handle)))
+        return made
+
+    def _leads(self, maps: List[Tuple[Union[str, int], Map]]) -> List[int]:
+        """For each source the index of its map among these, which are given by URLs or numbers."""
+        urls = [self.url(source) for source in range(self.counts().sources)]
+        leads = [LARGEST_SIZE] * len(urls)
+        for i, (of, _) in enumerate(maps):
+            found = [k for k, url in enumerate(urls) if url == of] if isinstance(of, str) else [index_of(of)]
+            if not found:
+                raise KeyError(of)
+            for source in found:
+                leads[source] = i
+        return leads
+
+    def compose(self, maps: Dict[Union[str, int], Map], items: int = 0) -> Map:
+        """One map out of this one and maps of its sources, where these were generated themselves.
+
+        Each mapping stays, with the original that a lookup in its source's map has. `maps` are by URL or by
+        number of a source; one of a URL that no source has raises KeyError. Error where the map would have
+        more than `items` sources or names (its code is 11, SMAP_TOO_MANY of smap.h); 0 stands for 16777216.
+        """
+        pairs = list(maps.items())
+        leads, limits = self._leads(pairs), declared.Limits(limit_of("items", items), 0)
+        # of two threads that have one of the maps each and wait for the other one, none would go on
+        inner = (declared.Map * max(len(pairs), 1))()
+        try:
+            for handle, (_, map_) in zip(inner, pairs):
+                check(map_._call(lib.smap_share, byref(handle)))
+            numbers = (c_size_t * max(len(leads), 1))(*leads)
+            return self._made(lib.smap_compose, inner, len(pairs), numbers, len(leads), byref(limits))
+        finally:
+            for handle in inner:
+                lib.smap_close(byref(handle))
+
+    def thinned(self) -> Map:
+        """The map without the mappings that change no position's original."""
+        return self._made(lib.smap_thin)
+
+    def used(self) -> Map:
+        """The map without the sources that no mapping has."""
+        return self._made(lib.smap_only_used)
 
     # ---- numbers, texts and bytes: tools/write-bindings writes this out of capi/smap.h
 

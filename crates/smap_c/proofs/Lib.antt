@@ -1,4 +1,5 @@
 pub mod BytesLemmas
+pub mod ComposingLemmas
 pub mod LinkLemmas
 pub mod LooseLemmas
 pub mod MapLemmas

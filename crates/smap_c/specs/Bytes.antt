@@ -47,7 +47,7 @@ Tidies (Some o) old new code = Writes (canonical_text (record_of o.map)) old new
 abbrev pub TidiesRelative : Option Opened → Option (Vec ℕ) → Option (Vec ℕ) → ℕ → Type 0
 TidiesRelative None old new code = (code ≡ codes.CLOSED) × (new ≡ old)
 TidiesRelative (Some o) old new code =
-    Writes (canonical_text_in relative_form o.base (record_of o.map)) old new code
+    Writes (canonical_text_in relative_form o.base.value (record_of o.map)) old new code
 
 -- The canonical mappings text of the map.
 abbrev pub SpellsMappings : Option Opened → Option (Vec ℕ) → Option (Vec ℕ) → ℕ → Type 0

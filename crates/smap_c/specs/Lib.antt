@@ -1,4 +1,5 @@
 pub mod Bytes
+pub mod Composing
 pub mod Faults
 pub mod Handles
 pub mod Links

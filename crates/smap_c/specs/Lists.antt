@@ -1,5 +1,5 @@
 -- What the calls that give what a map lists come to.
-use Rattle.std.specs.Prelude.{◌≡◌, ℕ, true, false, List, length, slice_get, Option, Some, None}
+use Rattle.std.specs.Prelude.{◌≡◌, ℕ, true, false, List, length, map, slice_get, Option, Some, None}
 use Rattle.smap_mappings.specs.declared.token.Token.{Token}
 use Rattle.smap_mappings.specs.declared.token.Original.{Original}
 use Rattle.smap_record.specs.Record.{Entry, ReadMap, record_of}
@@ -84,6 +84,18 @@ abbrev pub WrittenRootReported : List Spelling → ℕ → List ℕ → List ℕ
 WrittenRootReported ss i before after len code =
     SpellingReported (λ s. s.root) (slice_get ss i) before after len code
 
+-- a source as it is written where no text writes it: its URL, and no root
+abbrev pub plain : Entry → Spelling
+plain e = record { source = e.url; root = None }
+
+-- the sources of a map as its text writes them, if it was read from one
+abbrev pub spelled : ReadMap → Option (List Spelling) → List Spelling
+spelled m None = map plain m.listing.sources
+spelled m (Some ss) = ss
+
+abbrev pub spellings_of : Opened → List Spelling
+spellings_of o = spelled o.map o.written
+
 -- ---- the same of a handle
 
 abbrev pub ListedSource : Option Opened → ℕ → ℕ → ℕ → ℕ → Type 0
@@ -100,8 +112,9 @@ ListedToken (Some o) i before after code = TokenReported o.map i before after co
 
 abbrev pub WrittenSource : Option Opened → ℕ → List ℕ → List ℕ → ℕ → ℕ → Type 0
 WrittenSource None i before after len code = ClosedReported before after len code
-WrittenSource (Some o) i before after len code = WrittenSourceReported o.written i before after len code
+WrittenSource (Some o) i before after len code =
+    WrittenSourceReported (spellings_of o) i before after len code
 
 abbrev pub WrittenRoot : Option Opened → ℕ → List ℕ → List ℕ → ℕ → ℕ → Type 0
 WrittenRoot None i before after len code = ClosedReported before after len code
-WrittenRoot (Some o) i before after len code = WrittenRootReported o.written i before after len code
+WrittenRoot (Some o) i before after len code = WrittenRootReported (spellings_of o) i before after len code

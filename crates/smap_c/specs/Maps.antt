@@ -43,15 +43,16 @@ MayOpen base limits = AreLimits limits × IsUtf8 base
 
 -- The sources as the text writes them, which are those that the map lists: each has the URL of the other.
 abbrev pub IsWritten : List ℕ → Opened → Type 0
-IsWritten bytes m = (m.written ≡ as_written bytes) × (length m.written ≡ length m.map.listing.sources)
-    × (map (λ e. e.url) m.map.listing.sources ≡ map (url_of m.base) m.written)
+IsWritten bytes m = (m.written ≡ Some (as_written bytes))
+    × (length (as_written bytes) ≡ length m.map.listing.sources)
+    × (map (λ e. e.url) m.map.listing.sources ≡ map (url_of m.base.value) (as_written bytes))
 
 -- The map that the definition gives for the bytes against the base that the text is, or why there is none:
 -- the limits, else the base, else the map; unless memory ran out.
 abbrev pub Opens : List ℕ → List ℕ → SmapLimits → Result Opened OpenFault → Type 0
 Opens bytes base limits (Ok m) =
-    MayOpen base limits × (parse_url None base ≡ Ok m.base)
-    × (reading m.base (allowed limits) bytes ≡ Ok m.map) × IsWritten bytes m
+    MayOpen base limits × (parse_url None base ≡ Ok m.base.value)
+    × (reading m.base.value (allowed limits) bytes ≡ Ok m.map) × IsWritten bytes m
 Opens bytes base limits (Err (faults.Refused f)) =
     (p : Parts) × MayOpen base limits × (parse_url None base ≡ Ok p)
     × (reading p (allowed limits) bytes ≡ Err f)
@@ -85,7 +86,7 @@ OpensInto bytes base limits old new before after code =
 -- fault.
 abbrev pub OpensWithin : List ℕ → List ℕ → SmapLimits → ℕ → Result (Option Opened) OpenFault → Type 0
 OpensWithin bytes base limits most (Ok (Some m)) =
-    Opens bytes base limits (Ok m) × (url_bytes m.base (as_written bytes) ≤ most)
+    Opens bytes base limits (Ok m) × (url_bytes m.base.value (as_written bytes) ≤ most)
 OpensWithin bytes base limits most (Ok None) =
     (p : Parts) × MayOpen base limits × (parse_url None base ≡ Ok p)
     × (most < url_bytes p (as_written bytes))
@@ -107,8 +108,8 @@ HandleWithin (Err fault) old new before after code = HandleReported (Err fault) 
 -- for private contracts: the same against a base that was parsed, with what is allowed
 abbrev pub OpensAgainst : List ℕ → Parts → Allowed → ℕ → Result (Option Opened) OpenFault → Type 0
 OpensAgainst bytes p limits most (Ok (Some m)) =
-    (m.base ≡ p) × (reading m.base limits bytes ≡ Ok m.map) × IsWritten bytes m
-    × (url_bytes m.base (as_written bytes) ≤ most)
+    (m.base.value ≡ p) × (reading m.base.value limits bytes ≡ Ok m.map) × IsWritten bytes m
+    × (url_bytes m.base.value (as_written bytes) ≤ most)
 OpensAgainst bytes p limits most (Ok None) = most < url_bytes p (as_written bytes)
 OpensAgainst bytes p limits most (Err (faults.Refused f)) =
     (reading p limits bytes ≡ Err f) × (url_bytes p (as_written bytes) ≤ most)

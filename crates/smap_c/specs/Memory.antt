@@ -8,4 +8,4 @@ use Rattle.smap_c.specs.declared.opened.Opened.{Opened}
 abbrev pub TakesMemory : Option Opened → ℕ → ℕ → ℕ → Type 0
 TakesMemory None before after code = (code ≡ codes.CLOSED) × (after ≡ before)
 TakesMemory (Some o) before after code =
-    (code ≡ codes.OK) × (after ≡ capped (memory_of o.base o.map o.written))
+    (code ≡ codes.OK) × (after ≡ capped (memory_of o.base.value o.map o.written))

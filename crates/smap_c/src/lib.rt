@@ -7,6 +7,7 @@
 
 mod bytes;
 mod codes;
+mod composing;
 mod faults;
 mod handles;
 mod laws;

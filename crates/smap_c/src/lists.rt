@@ -1,12 +1,13 @@
 //! What a map lists, by its numbers.
-ghost use Rattle.std.specs.Prelude.{◌≡◌};
+ghost use Rattle.std.specs.Prelude.{◌≡◌, map as mapped};
 ghost use Rattle.smap_c.specs.Lists.{reported_listed_mapping, SourceReported, NameReported, TokenReported};
 ghost use Rattle.smap_c.specs.Lists.{ListedSource, ListedName};
 ghost use Rattle.smap_c.specs.Lists.{ListedToken, WrittenSource, WrittenRoot};
-ghost use Rattle.smap_c.specs.Lists.{WrittenSourceReported, WrittenRootReported};
+ghost use Rattle.smap_c.specs.Lists.{WrittenSourceReported, WrittenRootReported, plain, spellings_of};
 ghost use Rattle.smap_c.specs.Handles.{held_map};
 
 use crate::handles::{SmapMap, with_open, with_text};
+use crate::opened::Opened;
 use smap_c_answers::{OK, RANGE, copy_out, report_text};
 use smap_mappings::Token;
 use smap_record::{SourceMap, WrittenSources};
@@ -86,7 +87,7 @@ fn token_of(map: &SourceMap, i: usize, out: &mut SmapListedMapping) -> u32
     }
 }
 
-fn written_source_of(written: &WrittenSources, i: usize, out: &mut [u8], len: &mut usize) -> u32
+fn text_source_of(written: &WrittenSources, i: usize, out: &mut [u8], len: &mut usize) -> u32
     ensures { WrittenSourceReported written.now i out.old out.new len.new result }
 {
     if i < written.len() {
@@ -97,7 +98,29 @@ fn written_source_of(written: &WrittenSources, i: usize, out: &mut [u8], len: &m
     }
 }
 
-fn written_root_of(written: &WrittenSources, i: usize, out: &mut [u8], len: &mut usize) -> u32
+/// The URL of the i-th listed source.
+#[tactic(auto, using(crate::proofs::MapLemmas::listed_url))]
+fn listed_url_of(map: &SourceMap, i: usize, out: &mut [u8], len: &mut usize) -> u32
+    ensures { WrittenSourceReported (mapped plain map.now.listing.sources) i out.old out.new len.new result }
+{
+    if i < map.listed_count() {
+        report_text(map.source(map.listed(i)).url, out, len)
+    } else {
+        *len = 0;
+        RANGE
+    }
+}
+
+fn written_source_of(opened: &Opened, i: usize, out: &mut [u8], len: &mut usize) -> u32
+    ensures { WrittenSourceReported (spellings_of opened.now) i out.old out.new len.new result }
+{
+    match &opened.written {
+        Some(written) => text_source_of(written, i, out, len),
+        None => listed_url_of(&opened.map, i, out, len),
+    }
+}
+
+fn text_root_of(written: &WrittenSources, i: usize, out: &mut [u8], len: &mut usize) -> u32
     ensures { WrittenRootReported written.now i out.old out.new len.new result }
 {
     if i < written.len() {
@@ -105,6 +128,27 @@ fn written_root_of(written: &WrittenSources, i: usize, out: &mut [u8], len: &mut
     } else {
         *len = 0;
         RANGE
+    }
+}
+
+/// No `sourceRoot`, if there is an i-th listed source.
+fn no_root_of(map: &SourceMap, i: usize, out: &mut [u8], len: &mut usize) -> u32
+    ensures { WrittenRootReported (mapped plain map.now.listing.sources) i out.old out.new len.new result }
+{
+    if i < map.listed_count() {
+        report_text(None, out, len)
+    } else {
+        *len = 0;
+        RANGE
+    }
+}
+
+fn written_root_of(opened: &Opened, i: usize, out: &mut [u8], len: &mut usize) -> u32
+    ensures { WrittenRootReported (spellings_of opened.now) i out.old out.new len.new result }
+{
+    match &opened.written {
+        Some(written) => text_root_of(written, i, out, len),
+        None => no_root_of(&opened.map, i, out, len),
     }
 }
 
@@ -168,7 +212,7 @@ pub extern "C" fn smap_written_source(
     ensures same { map.new.owner.value ≡ map.old.owner.value }
 {
     with_text(alloc, map, out, len, |opened, out, len| {
-        written_source_of(&opened.written, i, out, len)
+        written_source_of(opened, i, out, len)
     })
 }
 
@@ -185,6 +229,6 @@ pub extern "C" fn smap_written_root(
     ensures same { map.new.owner.value ≡ map.old.owner.value }
 {
     with_text(alloc, map, out, len, |opened, out, len| {
-        written_root_of(&opened.written, i, out, len)
+        written_root_of(opened, i, out, len)
     })
 }

@@ -255,7 +255,7 @@ pub extern "C" fn smap_held(alloc: Global, map: &mut SmapMap, out: &mut usize) -
     ensures same { map.new.owner.value ≡ map.old.owner.value }
 {
     with_open(alloc, map, out, |opened, out| {
-        *out = memory_of(&opened.base, &opened.map, &opened.written);
+        *out = memory_of(&opened.base, &opened.map, opened.written.as_ref());
         OK
     })
 }

@@ -34,6 +34,9 @@ NOT_BASE64 = 9
 abbrev pub NOT_UTF8 : ℕ
 NOT_UTF8 = 10
 
+abbrev pub TOO_MANY : ℕ
+TOO_MANY = 11
+
 -- The name of a code, or nothing for a number that is none.
 abbrev pub code_name : ℕ → List ℕ
 code_name n =
@@ -47,4 +50,5 @@ code_name n =
     if n == RANGE then codes "number out of range" else
     if n == URL_BYTES then codes "too many bytes of URLs" else
     if n == NOT_BASE64 then codes "not base64" else
-    if n == NOT_UTF8 then codes "not UTF-8" else []
+    if n == NOT_UTF8 then codes "not UTF-8" else
+    if n == TOO_MANY then codes "too many sources or names" else []

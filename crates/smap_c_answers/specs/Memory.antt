@@ -80,6 +80,11 @@ roots_memory (s ∷ rest) = root_memory s (slice_get rest 0) + roots_memory rest
 abbrev pub spellings_memory : List Spelling → ℕ
 spellings_memory ss = 40 * room 4 (length ss) + (sum_by written_memory ss + roots_memory ss)
 
+-- the same if the map was read from a text
+abbrev pub text_spellings_memory : Option (List Spelling) → ℕ
+text_spellings_memory None = 0
+text_spellings_memory (Some ss) = spellings_memory ss
+
 -- ---- all of it
 
 -- the table of its lines, which has one more number than lines, or nothing for a map of few mappings
@@ -90,6 +95,6 @@ table_memory m =
 
 -- what each map takes, and its base; its strings and lists; its sources as they are written, and the table of
 -- its lines
-abbrev pub memory_of : Parts → ReadMap → List Spelling → ℕ
+abbrev pub memory_of : Parts → ReadMap → Option (List Spelling) → ℕ
 memory_of base map written = (648 + block (length (serialize base)))
-    + ((strings_memory map + lists_memory map) + (spellings_memory written + table_memory map))
+    + ((strings_memory map + lists_memory map) + (text_spellings_memory written + table_memory map))

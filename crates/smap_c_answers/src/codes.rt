@@ -35,6 +35,9 @@ pub const NOT_BASE64: u32 = 9;
 /// The text isn't UTF-8.
 pub const NOT_UTF8: u32 = 10;
 
+/// A map that is made would list more sources, or use more names, than the limits allow.
+pub const TOO_MANY: u32 = 11;
+
 /// The name of a code, or nothing for a number that is none.
 pub fn code_name(code: u32) -> &'static str
     ensures { result.now ≡ code_name code }
@@ -51,6 +54,7 @@ pub fn code_name(code: u32) -> &'static str
         URL_BYTES => "too many bytes of URLs",
         NOT_BASE64 => "not base64",
         NOT_UTF8 => "not UTF-8",
+        TOO_MANY => "too many sources or names",
         _ => "",
     }
 }

@@ -14,8 +14,8 @@ pub use answers::{
     resolved_answer, script_name_answer, script_url_answer,
 };
 pub use codes::{
-    CLOSED, LIMITS, MEMORY, NONE, NOT_BASE64, NOT_URL, NOT_UTF8, OK, RANGE, REFUSED, URL_BYTES,
-    code_name,
+    CLOSED, LIMITS, MEMORY, NONE, NOT_BASE64, NOT_URL, NOT_UTF8, OK, RANGE, REFUSED, TOO_MANY,
+    URL_BYTES, code_name,
 };
 pub use fault_words::fault_text;
 pub use memory::memory_of;

@@ -5,7 +5,7 @@ ghost use Rattle.smap_record.specs.Record.{record_of};
 ghost use Rattle.smap_record.specs.Views.{entry_of_view};
 ghost use Rattle.smap_record.specs.Written.{Spelling};
 ghost use Rattle.smap_c_answers.specs.Memory.{block, capped, room, text_memory, source_memory, name_memory};
-ghost use Rattle.smap_c_answers.specs.Memory.{label_memory};
+ghost use Rattle.smap_c_answers.specs.Memory.{label_memory, text_spellings_memory};
 ghost use Rattle.smap_c_answers.specs.Memory.{strings_memory, lists_memory, written_memory, root_memory};
 ghost use Rattle.smap_c_answers.specs.Memory.{roots_memory, spellings_memory, table_memory, memory_of};
 
@@ -185,6 +185,15 @@ fn spellings_memory(written: &WrittenSources) -> usize
     list.saturating_add(texts)
 }
 
+fn text_spellings_memory(written: Option<&WrittenSources>) -> usize
+    ensures { result ≡ capped (text_spellings_memory (option_copied written.entry)) }
+{
+    match written {
+        Some(written) => spellings_memory(written),
+        None => 0,
+    }
+}
+
 fn table_memory(map: &SourceMap) -> usize
     ensures { result ≡ table_memory map.now }
 {
@@ -196,12 +205,13 @@ fn table_memory(map: &SourceMap) -> usize
     }
 }
 
-/// How much memory a map takes, with its base, its sources as they are written and the table of its lines.
-pub fn memory_of(base: &Base, map: &SourceMap, written: &WrittenSources) -> usize
-    ensures { result ≡ capped (memory_of base.now map.now written.now) }
+/// How much memory a map takes, with its base, the table of its lines and, if it was read from a text, its
+/// sources as they are written.
+pub fn memory_of(base: &Base, map: &SourceMap, written: Option<&WrittenSources>) -> usize
+    ensures { result ≡ capped (memory_of base.now map.now (option_copied written.entry)) }
 {
     let own = block(base.text().len()).saturating_add(OF_MAP);
     let listed = strings_memory(map).saturating_add(lists_memory(map));
-    let beside = spellings_memory(written).saturating_add(table_memory(map));
+    let beside = text_spellings_memory(written).saturating_add(table_memory(map));
     own.saturating_add(listed.saturating_add(beside))
 }

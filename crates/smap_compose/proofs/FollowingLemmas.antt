@@ -1,26 +1,27 @@
 -- Originals that are looked up in the maps of their sources.
-use Rattle.std.proofs.Common.{◌≡◌, ℕ, ◌+◌, List, [], ◌∷◌, map, Option, Some, None}
+use Rattle.std.proofs.Common.{◌≡◌, ℕ, ◌+◌, ◌<◌, List, [], ◌∷◌, get_or, length, map, Option, Some, None}
 use Rattle.std.proofs.Common.{Bool, true, false}
 use Rattle.std.proofs.Common.{ap, refl, subst, sym, ◌∙◌, arith, slice_get}
 use Rattle.std.specs.Prelude.{IfSome, if◌then◌else◌, option_and_then, option_copied, option_map, unwrap_or}
 use Rattle.std.specs.List.{AllByRecursion}
 use Rattle.std.specs.Option.{option_or}
 use Rattle.std.proofs.lemmas.List.{length-map}
-use Rattle.std.proofs.lemmas.Option.{slice_get-map, slice_get_within}
+use Rattle.std.proofs.lemmas.Option.{slice_get-map, slice_get_read, slice_get_within}
 use denote.Ref.{Bor}
 use Rattle.smap_record.specs.declared.view.OriginalView.{OriginalView}
 use Rattle.smap_record.specs.declared.view.TokenView.{TokenView}
-use Rattle.smap_record.specs.Views.{mapping_of_view, origin_of_view}
+use Rattle.smap_record.specs.Views.{entry_of_view, mapping_of_view, origin_of_view}
 use Rattle.smap_record.proofs.ListLemmas.{all_at}
 use Rattle.smap_mappings.specs.declared.token.Token.{Token}
 use Rattle.smap_mappings.specs.declared.token.Original.{Original}
 use Rattle.smap_mappings.specs.Text.{IsOriginal, IsPlaced}
-use Rattle.smap_record.specs.Record.{Entry, Listing, Mapping, Origin, mapping_of, no_entry, origin_of}
+use Rattle.smap_record.specs.Record.{Entry, Listing, Mapping, Origin, ReadMap, mapping_of, no_entry}
+use Rattle.smap_record.specs.Record.{Record, origin_of, record_of}
 use Rattle.smap_record.specs.Listings.{IsListing}
 use Rattle.smap_trace.specs.Lookup.{is_within, mapping_at}
 use Rattle.smap_compose.specs.Composing.{led_on, under}
-use Rattle.smap_compose.specs.Following.{HasPlace}
-use Rattle.smap_compose.specs.Standing.{HoldsFrom}
+use Rattle.smap_compose.specs.Following.{HasPlace, followed_by, origin_at}
+use Rattle.smap_compose.specs.Standing.{HoldsFrom, standing_for}
 
 -- ---- the numbers of originals are in range
 
@@ -109,3 +110,30 @@ pub led_listed : (sources rs : List Entry) (start n : ℕ) (o p : Origin) (name 
     } ≡ led_on o p
 led_listed sources rs start n o p name holds at named =
     rw (source_from sources rs start n o.source.ignored p.source holds at, named) refl
+
+-- ---- maps that something holds
+
+-- the map that the one at a place holds
+held_at : {H : Type 0} (held : H → ReadMap) (hs : List H) (k : ℕ) (h : H) (m : ReadMap) → k < length hs
+    → h ≡ get_or hs k h → m ≡ held h → slice_get (map held hs) k ≡ Some m
+held_at held hs k h m below is same = slice_get-map held hs k
+    ∙ ap (option_map held) (slice_get_read hs (length hs) k h refl below is) ∙ ap Some (sym same)
+
+-- a source is led to the map that the one of its number holds
+pub led_to_held : {H : Type 0} (held : H → ReadMap) (hs : List H) (number : Option ℕ) (found : Option Record)
+    (k : ℕ) (h : H) (m : ReadMap)
+    → option_and_then (slice_get (map record_of (map held hs))) number ≡ found → number ≡ Some k
+    → k < length hs → h ≡ get_or hs k h → m ≡ held h → found ≡ Some (record_of m)
+led_to_held held hs number found k h m named is below at same = sym named
+    ∙ ap (option_and_then (slice_get (map record_of (map held hs)))) is
+    ∙ slice_get-map record_of (map held hs) k
+    ∙ ap (option_map record_of) (held_at held hs k h m below at same)
+
+-- an original whose source has no map stays, among the sources that are listed
+pub stays_listed : (sources : List Entry) (start : ℕ) (o : OriginalView) (found : Option Record)
+    → found ≡ None → HoldsFrom sources start (standing_for found (entry_of_view o.source))
+    → Some (origin_at sources (record { source = start; line = o.line; column = o.column; name = o.name }))
+    ≡ followed_by found (origin_of_view o)
+stays_listed sources start o None is holds =
+    rw (source_here sources start (entry_of_view o.source) holds) refl
+stays_listed sources start o (Some r) is holds = cc

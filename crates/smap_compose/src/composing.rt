@@ -18,7 +18,7 @@ use crate::joining::{Joined, join_by};
 use crate::standing::{is_within, standing_sources};
 use indexmap::IndexSet;
 use smap_record::{Limits, SourceMap, Sources};
-use smap_trace::LineStarts;
+use smap_trace::{HasMap, LineStarts};
 use std::alloc::{AllocError, Global};
 
 /// Copies of the names.
@@ -58,23 +58,26 @@ pub(crate) fn map_of(
 }
 
 /// The composition, if not too many sources stand for those of the outer map.
-fn composed(
+fn composed<H: HasMap>(
     alloc: Global,
     outer: &SourceMap,
-    inner: &[SourceMap],
+    inner: &[H],
     tables: &[LineStarts],
     leads: &[Option<usize>],
     items: u32,
 ) -> Result<SourceMap, ComposeError>
-    requires tables { tables.now ≡ mapped (λ m. line_starts (record_of m).mappings) inner.now }
-    requires few { length (all_standing outer.now inner.now leads.now) ≤ items }
+    requires tables { tables.now ≡ mapped (λ h. line_starts (record_of (H.held_map h)).mappings) inner.now }
+    requires few { length (all_standing outer.now (mapped H.held_map inner.now) leads.now) ≤ items }
     requires items { items < POSITIONS }
     ensures record { IfOk result (λ m.
-        record_of m ≡ composition (record_of outer.now) (maps_of outer.now inner.now leads.now)) }
+        record_of m ≡ composition (record_of outer.now)
+        (maps_of outer.now (mapped H.held_map inner.now) leads.now)) }
     ensures few { IfOk result (λ m. length (names_used
-        (composition (record_of outer.now) (maps_of outer.now inner.now leads.now)).mappings) ≤ items) }
+        (composition (record_of outer.now)
+        (maps_of outer.now (mapped H.held_map inner.now) leads.now)).mappings) ≤ items) }
     ensures refused { IfErr result (λ e. e ≡ errors.TooMany → items < length (names_used
-        (composition (record_of outer.now) (maps_of outer.now inner.now leads.now)).mappings)) }
+        (composition (record_of outer.now)
+        (maps_of outer.now (mapped H.held_map inner.now) leads.now)).mappings)) }
 {
     // What this call promises besides the count: the positions of a map's mappings never fall.
     let _ = outer.token_count();
@@ -84,21 +87,24 @@ fn composed(
 }
 
 /// The composition, by the tables of the inner maps.
-pub(crate) fn compose_by(
+pub(crate) fn compose_by<H: HasMap>(
     alloc: Global,
     outer: &SourceMap,
-    inner: &[SourceMap],
+    inner: &[H],
     tables: &[LineStarts],
     leads: &[Option<usize>],
     limits: Limits,
 ) -> Result<SourceMap, ComposeError>
-    requires { tables.now ≡ mapped (λ m. line_starts (record_of m).mappings) inner.now }
+    requires { tables.now ≡ mapped (λ h. line_starts (record_of (H.held_map h)).mappings) inner.now }
     ensures record { IfOk result (λ m.
-        record_of m ≡ composition (record_of outer.now) (maps_of outer.now inner.now leads.now)) }
+        record_of m ≡ composition (record_of outer.now)
+        (maps_of outer.now (mapped H.held_map inner.now) leads.now)) }
     ensures few { IfOk result (λ m.
-        is_too_many limits (record_of outer.now) (maps_of outer.now inner.now leads.now) ≡ false) }
+        is_too_many limits (record_of outer.now)
+        (maps_of outer.now (mapped H.held_map inner.now) leads.now) ≡ false) }
     ensures refused { IfErr result (λ e. e ≡ errors.TooMany →
-        is_too_many limits (record_of outer.now) (maps_of outer.now inner.now leads.now) ≡ true) }
+        is_too_many limits (record_of outer.now)
+        (maps_of outer.now (mapped H.held_map inner.now) leads.now) ≡ true) }
 {
     let items = limits.items();
     if !is_within(outer, inner, leads, items as usize) {
@@ -119,19 +125,22 @@ pub(crate) fn compose_by(
 ///
 /// `TooMany`: the sources that stand for those of `outer`, each as often as it stands for one, or the names
 /// that are used, are more than the limit on each. `Memory`.
-pub fn compose(
+pub fn compose<H: HasMap>(
     alloc: Global,
     outer: &SourceMap,
-    inner: &[SourceMap],
+    inner: &[H],
     leads: &[Option<usize>],
     limits: Limits,
 ) -> Result<SourceMap, ComposeError>
     ensures record { IfOk result (λ m.
-        record_of m ≡ composition (record_of outer.now) (maps_of outer.now inner.now leads.now)) }
+        record_of m ≡ composition (record_of outer.now)
+        (maps_of outer.now (mapped H.held_map inner.now) leads.now)) }
     ensures few { IfOk result (λ m.
-        is_too_many limits (record_of outer.now) (maps_of outer.now inner.now leads.now) ≡ false) }
+        is_too_many limits (record_of outer.now)
+        (maps_of outer.now (mapped H.held_map inner.now) leads.now) ≡ false) }
     ensures refused { IfErr result (λ e. e ≡ errors.TooMany →
-        is_too_many limits (record_of outer.now) (maps_of outer.now inner.now leads.now) ≡ true) }
+        is_too_many limits (record_of outer.now)
+        (maps_of outer.now (mapped H.held_map inner.now) leads.now) ≡ true) }
 {
     let tables = tables(alloc, inner)?;
     compose_by(alloc, outer, inner, &tables, leads, limits)

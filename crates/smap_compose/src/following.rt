@@ -13,7 +13,7 @@ ghost use Rattle.smap_compose.specs.Standing.{HoldsFrom, standing_for};
 
 use crate::standing::number_of;
 use smap_record::{OriginalView, SourceMap, TokenView};
-use smap_trace::{LineStarts, lookup_in};
+use smap_trace::{HasMap, LineStarts, lookup_in};
 use std::alloc::{AllocError, Global};
 
 /// An original whose source is an index into those that are listed.
@@ -26,12 +26,13 @@ pub(crate) struct Listed<'a> {
 }
 
 /// For each map the table of its lines.
-pub(crate) fn tables(alloc: Global, inner: &[SourceMap]) -> Result<Vec<LineStarts>, AllocError>
-    ensures { IfOk result (λ ts. ts.items ≡ mapped (λ m. line_starts (record_of m).mappings) inner.now) }
+pub(crate) fn tables<H: HasMap>(alloc: Global, inner: &[H]) -> Result<Vec<LineStarts>, AllocError>
+    ensures { IfOk result (λ ts.
+        ts.items ≡ mapped (λ h. line_starts (record_of (H.held_map h)).mappings) inner.now) }
 {
     let mut tables = Vec::with_capacity(alloc, inner.len())?;
     for i in 0..inner.len() {
-        tables.push(LineStarts::new(alloc, &inner[i])?)?;
+        tables.push(LineStarts::new(alloc, inner[i].map())?)?;
     }
     Ok(tables)
 }
@@ -97,32 +98,33 @@ fn led_on<'a>(
 
 /// Where an original leads, by the map of its source if it has one. What stands for its source is listed from
 /// the number on that `starts` has for it.
-pub(crate) fn followed<'a>(
+pub(crate) fn followed<'a, H: HasMap>(
     original: OriginalView<'a>,
-    inner: &'a [SourceMap],
+    inner: &'a [H],
     tables: &[LineStarts],
     leads: &[Option<usize>],
     starts: &[usize],
 ) -> Option<Listed<'a>>
-    requires tables { tables.now ≡ mapped (λ m. line_starts (record_of m).mappings) inner.now }
+    requires tables { tables.now ≡ mapped (λ h. line_starts (record_of (H.held_map h)).mappings) inner.now }
     requires within { original.source_number < length starts.now }
     requires start { slice_index starts.now original.source_number
-        + length (standing_for (led_at inner.now leads.now original.source_number)
+        + length (standing_for (led_at (mapped H.held_map inner.now) leads.now original.source_number)
         (entry_of_view original.source)) < POSITIONS }
     requires place { HasPlace (origin_of_view original) }
     ensures followed { (sources : List Entry)
         → HoldsFrom sources (slice_index starts.now original.entry.source_number)
-        (standing_for (led_at inner.now leads.now original.entry.source_number)
+        (standing_for (led_at (mapped H.held_map inner.now) leads.now original.entry.source_number)
         (entry_of_view original.entry.source))
         → option_map (origin_at sources) result ≡ followed_by
-        (led_at inner.now leads.now original.entry.source_number) (origin_of_view original.entry) }
+        (led_at (mapped H.held_map inner.now) leads.now original.entry.source_number)
+        (origin_of_view original.entry) }
     ensures within { (count : ℕ) → slice_index starts.now original.entry.source_number
-        + length (standing_for (led_at inner.now leads.now original.entry.source_number)
+        + length (standing_for (led_at (mapped H.held_map inner.now) leads.now original.entry.source_number)
         (entry_of_view original.entry.source)) ≤ count → IfSome result (IsListedAt count) }
 {
     let start = starts[original.source_number];
     match number_of(inner, leads, original.source_number) {
-        Some(k) => led_on(original, &inner[k], &tables[k], start),
+        Some(k) => led_on(original, inner[k].map(), &tables[k], start),
         None => Some(Listed {
             source: start,
             line: original.line,

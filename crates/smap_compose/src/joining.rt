@@ -18,7 +18,7 @@ use crate::standing::Standing;
 use indexmap::IndexSet;
 use smap_mappings::{Original, Token};
 use smap_record::SourceMap;
-use smap_trace::LineStarts;
+use smap_trace::{HasMap, LineStarts};
 use std::alloc::{AllocError, Global};
 
 /// The names used so far, each once, and the mappings, whose names are indices into these.
@@ -122,21 +122,22 @@ pub(crate) fn none_joined<'a>(alloc: Global, room: usize) -> Result<Joined<'a>, 
 }
 
 /// Where the original of the i-th mapping leads.
-fn original_of<'a>(
+fn original_of<'a, H: HasMap>(
     outer: &'a SourceMap,
     i: usize,
-    inner: &'a [SourceMap],
+    inner: &'a [H],
     tables: &[LineStarts],
     leads: &[Option<usize>],
     standing: &Standing,
 ) -> Option<Listed<'a>>
     requires within { i < length (record_of outer.now).mappings }
-    requires tables { tables.now ≡ mapped (λ m. line_starts (record_of m).mappings) inner.now }
-    requires standing { AreStanding outer.now inner.now leads.now standing.now }
+    requires tables { tables.now ≡ mapped (λ h. line_starts (record_of (H.held_map h)).mappings) inner.now }
+    requires standing { AreStanding outer.now (mapped H.held_map inner.now) leads.now standing.now }
     requires few { length standing.now.sources < POSITIONS }
     ensures followed { (m : Mapping) → slice_get (record_of outer.now).mappings i ≡ Some m
         → option_map (origin_at standing.now.sources) result
-        ≡ option_and_then (followed_by_maps (maps_of outer.now inner.now leads.now)) m.origin }
+        ≡ option_and_then (followed_by_maps
+        (maps_of outer.now (mapped H.held_map inner.now) leads.now)) m.origin }
     ensures within { IfSome result (IsListedAt (length standing.now.sources)) }
 {
     // What this call promises besides the count: the numbers of a map's mappings are in range.
@@ -146,25 +147,27 @@ fn original_of<'a>(
 }
 
 /// The mappings of the composition, and the names that they use, by the tables of the inner maps.
-pub(crate) fn join_by<'a>(
+pub(crate) fn join_by<'a, H: HasMap>(
     alloc: Global,
     outer: &'a SourceMap,
-    inner: &'a [SourceMap],
+    inner: &'a [H],
     tables: &[LineStarts],
     leads: &[Option<usize>],
     standing: &Standing,
     items: u32,
 ) -> Result<Joined<'a>, ComposeError>
-    requires tables { tables.now ≡ mapped (λ m. line_starts (record_of m).mappings) inner.now }
-    requires standing { AreStanding outer.now inner.now leads.now standing.now }
+    requires tables { tables.now ≡ mapped (λ h. line_starts (record_of (H.held_map h)).mappings) inner.now }
+    requires standing { AreStanding outer.now (mapped H.held_map inner.now) leads.now standing.now }
     requires few { length standing.now.sources < POSITIONS }
     requires items { items < POSITIONS }
     ensures joins { IfOk result (λ j. AreOf standing.now.sources
-        (composition (record_of outer.now) (maps_of outer.now inner.now leads.now)).mappings
+        (composition (record_of outer.now)
+        (maps_of outer.now (mapped H.held_map inner.now) leads.now)).mappings
         (texts_of j.names.keys) j.tokens.items) }
     ensures few { IfOk result (λ j. length (texts_of j.names.keys) ≤ items) }
     ensures refused { IfErr result (λ e. e ≡ errors.TooMany → items < length (names_used
-        (composition (record_of outer.now) (maps_of outer.now inner.now leads.now)).mappings)) }
+        (composition (record_of outer.now)
+        (maps_of outer.now (mapped H.held_map inner.now) leads.now)).mappings)) }
 {
     let none = none_joined(alloc, outer.token_count())?;
     let mut joined = none;

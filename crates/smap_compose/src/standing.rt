@@ -8,6 +8,7 @@ ghost use Rattle.smap_compose.specs.Numbered.{led_at};
 ghost use Rattle.smap_compose.specs.Standing.{all_standing, standing_for, AreStanding};
 
 use smap_record::{SourceMap, SourceView, Sources};
+use smap_trace::HasMap;
 use std::alloc::{AllocError, Global};
 
 /// The sources that stand for those of a map, and where those of each begin.
@@ -18,9 +19,9 @@ pub(crate) struct Standing {
 }
 
 /// The number of the map of the i-th source, if it has one.
-pub(crate) fn number_of(inner: &[SourceMap], leads: &[Option<usize>], i: usize) -> Option<usize>
-    ensures map { option_and_then (slice_get (mapped record_of inner.now)) result
-        ≡ led_at inner.now leads.now i }
+pub(crate) fn number_of<H: HasMap>(inner: &[H], leads: &[Option<usize>], i: usize) -> Option<usize>
+    ensures map { option_and_then (slice_get (mapped record_of (mapped H.held_map inner.now))) result
+        ≡ led_at (mapped H.held_map inner.now) leads.now i }
     ensures within { IfSome result (λ k. k < length inner.now) }
 {
     let number = (*leads.get(i)?)?;
@@ -32,11 +33,11 @@ pub(crate) fn number_of(inner: &[SourceMap], leads: &[Option<usize>], i: usize) 
 }
 
 /// The map of the i-th source, if it has one.
-fn led_at<'a>(inner: &'a [SourceMap], leads: &[Option<usize>], i: usize) -> Option<&'a SourceMap>
-    ensures { option_map (λ m. record_of m.now) result ≡ led_at inner.now leads.now i }
+fn led_at<'a, H: HasMap>(inner: &'a [H], leads: &[Option<usize>], i: usize) -> Option<&'a SourceMap>
+    ensures { option_map (λ m. record_of m.now) result ≡ led_at (mapped H.held_map inner.now) leads.now i }
 {
     match number_of(inner, leads, i) {
-        Some(k) => Some(&inner[k]),
+        Some(k) => Some(inner[k].map()),
         None => None,
     }
 }
@@ -95,13 +96,14 @@ fn standing_count(map: Option<&SourceMap>) -> usize
 }
 
 /// Whether at most this many sources stand for those of the outer map.
-pub(crate) fn is_within(
+pub(crate) fn is_within<H: HasMap>(
     outer: &SourceMap,
-    inner: &[SourceMap],
+    inner: &[H],
     leads: &[Option<usize>],
     items: usize,
 ) -> bool
-    ensures { IsTrue result ↔ length (all_standing outer.now inner.now leads.now) ≤ items }
+    ensures { IsTrue result ↔ length
+        (all_standing outer.now (mapped H.held_map inner.now) leads.now) ≤ items }
 {
     let mut left = items;
     for i in 0..outer.source_count() {
@@ -115,13 +117,13 @@ pub(crate) fn is_within(
 }
 
 /// The sources that stand for those of the outer map.
-pub(crate) fn standing_sources(
+pub(crate) fn standing_sources<H: HasMap>(
     alloc: Global,
     outer: &SourceMap,
-    inner: &[SourceMap],
+    inner: &[H],
     leads: &[Option<usize>],
 ) -> Result<Standing, AllocError>
-    ensures { IfOk result (AreStanding outer.now inner.now leads.now) }
+    ensures { IfOk result (AreStanding outer.now (mapped H.held_map inner.now) leads.now) }
 {
     let mut sources = Sources::new(alloc);
     let mut starts = Vec::with_capacity(alloc, outer.source_count())?;

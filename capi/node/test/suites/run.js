@@ -26,6 +26,7 @@ const SUITES = {
   remapping: {
     layers: {
       '../../trace-mapping.js': /^@jridgewell\/trace-mapping$/,
+      '../../remapping.js': /\/src\/remapping$/,
       '../../source-map.js': /^source-map$/,
     },
     load: loadTypeScript,
@@ -112,6 +113,7 @@ const counting = {
 
 function counted(exports) {
   const of = value => (typeof value === 'function' ? new Proxy(value, counting) : value);
+  if (typeof exports === 'function') return of(exports);
   return Object.fromEntries(Object.entries(exports).map(([name, value]) => [name, of(value)]));
 }
 

@@ -17,6 +17,7 @@ pub const SMAP_RANGE: u32 = 7;
 pub const SMAP_URL_BYTES: u32 = 8;
 pub const SMAP_NOT_BASE64: u32 = 9;
 pub const SMAP_NOT_UTF8: u32 = 10;
+pub const SMAP_TOO_MANY: u32 = 11;
 pub const SMAP_FAULT_PREFIX: u32 = 1;
 pub const SMAP_FAULT_JSON: u32 = 2;
 pub const SMAP_FAULT_NOT_OBJECT: u32 = 3;
@@ -235,6 +236,12 @@ extern "C" {
         map: *mut smap_map, i: usize, out: *mut c_char, room: usize, len: *mut usize,
     ) -> u32;
     pub fn smap_listed_token(map: *mut smap_map, i: usize, out: *mut smap_listed_mapping) -> u32;
+    pub fn smap_compose(
+        outer: *mut smap_map, inner: *mut smap_map, inner_count: usize, leads: *const usize,
+        leads_count: usize, limits: *const smap_limits, out: *mut smap_map,
+    ) -> u32;
+    pub fn smap_thin(map: *mut smap_map, out: *mut smap_map) -> u32;
+    pub fn smap_only_used(map: *mut smap_map, out: *mut smap_map) -> u32;
     pub fn smap_bytes_data(bytes: *mut smap_bytes, at: *mut *const u8, len: *mut usize) -> u32;
     pub fn smap_bytes_copy(bytes: *mut smap_bytes, from: usize, out: *mut c_void, room: usize) -> usize;
     pub fn smap_bytes_free(bytes: *mut smap_bytes);

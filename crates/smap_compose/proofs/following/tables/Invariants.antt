@@ -5,4 +5,5 @@ use Rattle.smap_compose.proofs.following.tables.Given as goal
 
 -- those that were gone through have their tables
 abbrev pub invariant-loop-i : goal.invariant-loop-i
-invariant-loop-i l = l.tables.items ≡ map (λ m. line_starts (record_of m).mappings) (take l.i l.inner)
+invariant-loop-i g l =
+    l.tables.items ≡ map (λ h. line_starts (record_of (g.H.HasMap.held_map h)).mappings) (take l.i l.inner)

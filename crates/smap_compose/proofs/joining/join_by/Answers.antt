@@ -1,4 +1,4 @@
-use Rattle.std.proofs.Common.{◌∙◌, List, ap, arith, length, subst, sym}
+use Rattle.std.proofs.Common.{◌∙◌, List, ap, arith, length, map, subst, sym}
 use Rattle.std.specs.Prelude.{option_map}
 use Rattle.std.proofs.lemmas.Option.{slice_get-map}
 use Rattle.smap_mappings.specs.Text.{IsPlaced}
@@ -10,7 +10,7 @@ use Rattle.smap_compose.proofs.JoiningLemmas.{next_mapping, none_joined, too_man
 use Rattle.smap_compose.proofs.joining.join_by.Goals as goal
 
 pub loop-i-init : goal.loop-i-init
-loop-i-init c =
+loop-i-init g c =
     let none = c.in_ok-none.none in
     record {
       are = none_joined c.args.standing.now.sources (texts_of none.names.keys) none.tokens.items
@@ -19,22 +19,23 @@ loop-i-init c =
     }
 
 pub returns-in-Err-clause-refused : goal.returns-in-Err-clause-refused
-returns-in-Err-clause-refused c = λ is.
+returns-in-Err-clause-refused g c = λ is.
     let l = c.args.outer.now.listing in
     let t = c.listed_token-token.result in
     let led = c.original_of-original.ensures.followed (mapping_of l t)
     (slice_get-map (mapping_of l) l.tokens c.loop-i.i
     ∙ ap (option_map (mapping_of l)) c.listed_token-token.ensures)
     in
-    too_many l (maps_of c.args.outer.now c.args.inner.now c.args.leads.now) c.args.standing.now.sources
+    too_many l (maps_of c.args.outer.now (map g.H.HasMap.held_map c.args.inner.now) c.args.leads.now)
+    c.args.standing.now.sources
     c.loop-i.i t c.original_of-original.result c.listed_token-token.ensures led
     (texts_of c.loop-i.joined.names.keys) c.args.items c.loop-i.invariant.are.used
     (c.in-Err.ensures.refused is)
 
 pub loop-i-preserved : goal.loop-i-preserved
-loop-i-preserved c =
+loop-i-preserved g c =
     let l = c.args.outer.now.listing in
-    let maps = maps_of c.args.outer.now c.args.inner.now c.args.leads.now in
+    let maps = maps_of c.args.outer.now (map g.H.HasMap.held_map c.args.inner.now) c.args.leads.now in
     let sources = c.args.standing.now.sources in
     let i = c.loop-i.i in
     let t = c.listed_token-token.result in

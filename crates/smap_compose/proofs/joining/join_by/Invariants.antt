@@ -1,4 +1,4 @@
-use Rattle.std.proofs.Common.{◌≤◌, length, take}
+use Rattle.std.proofs.Common.{◌≤◌, length, map, take}
 use Rattle.smap_record.specs.Record.{record_of}
 use Rattle.smap_compose.specs.Composing.{composition}
 use Rattle.smap_compose.specs.Following.{AreOf, texts_of}
@@ -7,8 +7,9 @@ use Rattle.smap_compose.proofs.joining.join_by.Given as goal
 
 -- the mappings that were gone through are joined
 abbrev pub invariant-loop-i : goal.invariant-loop-i
-invariant-loop-i l =
-    let ms = (composition (record_of l.outer) (maps_of l.outer l.inner l.leads)).mappings in
+invariant-loop-i g l =
+    let maps = maps_of l.outer (map g.H.HasMap.held_map l.inner) l.leads in
+    let ms = (composition (record_of l.outer) maps).mappings in
     record {
       are : AreOf l.standing.sources (take l.i ms) (texts_of l.joined.names.keys) l.joined.tokens.items;
       few : length (texts_of l.joined.names.keys) ≤ l.items;

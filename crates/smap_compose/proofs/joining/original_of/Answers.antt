@@ -1,4 +1,4 @@
-use Rattle.std.proofs.Common.{◌≡◌, ◌∙◌, Option, Some, ap, arith, length, slice_get, subst, sym}
+use Rattle.std.proofs.Common.{◌≡◌, ◌∙◌, Option, Some, ap, arith, length, map, slice_get, subst, sym}
 use Rattle.std.specs.Prelude.{IfSome, option_and_then}
 use Rattle.smap_record.specs.declared.view.OriginalView.{OriginalView}
 use Rattle.smap_record.specs.Record.{Origin, Record, record_of}
@@ -11,34 +11,36 @@ use Rattle.smap_compose.proofs.StandingLemmas.{holds_from, map_at, within_source
 use Rattle.smap_compose.proofs.joining.original_of.Goals as goal
 
 pub followed-requires-clause-within : goal.followed-requires-clause-within
-followed-requires-clause-within c =
+followed-requires-clause-within g c =
     let outer = c.args.outer.now in
     let o = c.in_ok-original.original in
     let at = subst (λ (x : Option OriginalView). IfSome x (λ p.
     slice_get (record_of outer).sources p.source_number ≡ Some (entry_of_view p.source)))
     c.in_ok-original.was c.token.ensures.number in
-    within_starts outer c.args.inner.now c.args.leads.now c.args.standing.now c.deref.result.now
+    within_starts outer (map g.H.HasMap.held_map c.args.inner.now) c.args.leads.now c.args.standing.now
+    c.deref.result.now
     c.requires.standing c.deref.ensures.value o.source_number (entry_of_view o.source) at
 
 pub followed-requires-clause-start : goal.followed-requires-clause-start
-followed-requires-clause-start c =
+followed-requires-clause-start g c =
     let outer = c.args.outer.now in
     let o = c.in_ok-original.original in
     let at = subst (λ (x : Option OriginalView). IfSome x (λ p.
     slice_get (record_of outer).sources p.source_number ≡ Some (entry_of_view p.source)))
     c.in_ok-original.was c.token.ensures.number in
-    let within = within_sources outer c.args.inner.now c.args.leads.now c.args.standing.now c.deref.result.now
+    let within = within_sources outer (map g.H.HasMap.held_map c.args.inner.now) c.args.leads.now
+    c.args.standing.now c.deref.result.now
     c.requires.standing c.deref.ensures.value o.source_number (entry_of_view o.source) at in
     omega (arith, within, c.requires.few)
 
 pub followed-requires-clause-place : goal.followed-requires-clause-place
-followed-requires-clause-place c = place_of c.args.outer.now.listing c.args.i c.token.result
+followed-requires-clause-place g c = place_of c.args.outer.now.listing c.args.i c.token.result
     c.in_ok-original.original c.token_count.ensures.listing c.token.ensures.mapping c.in_ok-original.was
 
 pub returns-clause-followed : goal.returns-clause-followed
-returns-clause-followed c = λ m found.
+returns-clause-followed g c = λ m found.
     let outer = c.args.outer.now in
-    let inner = c.args.inner.now in
+    let inner = map g.H.HasMap.held_map c.args.inner.now in
     let leads = c.args.leads.now in
     let standing = c.args.standing.now in
     let o = c.in_ok-original.original in
@@ -56,12 +58,13 @@ returns-clause-followed c = λ m found.
     ∙ ap (λ (p : Option Origin). option_and_then (followed (maps_of outer inner leads)) p) (sym origin)
 
 pub returns-clause-within : goal.returns-clause-within
-returns-clause-within c =
+returns-clause-within g c =
     let outer = c.args.outer.now in
     let o = c.in_ok-original.original in
     let at = subst (λ (x : Option OriginalView). IfSome x (λ p.
     slice_get (record_of outer).sources p.source_number ≡ Some (entry_of_view p.source)))
     c.in_ok-original.was c.token.ensures.number in
     c.followed.ensures.within (length c.args.standing.now.sources)
-    (within_sources outer c.args.inner.now c.args.leads.now c.args.standing.now c.deref.result.now
+    (within_sources outer (map g.H.HasMap.held_map c.args.inner.now) c.args.leads.now c.args.standing.now
+    c.deref.result.now
     c.requires.standing c.deref.ensures.value o.source_number (entry_of_view o.source) at)

@@ -1,13 +1,13 @@
-use Rattle.std.proofs.Common.{◌∙◌, ap, arith, length, length-append}
+use Rattle.std.proofs.Common.{◌∙◌, ap, arith, length, length-append, map}
 use Rattle.smap_compose.specs.Numbered.{led_at}
 use Rattle.smap_compose.specs.Standing.{standing_for, standing_up_to}
 use Rattle.smap_compose.proofs.StandingLemmas.{next_standing, standing_within, source_at}
 use Rattle.smap_compose.proofs.standing.is_within.Goals as goal
 
 pub loop-i-preserved : goal.loop-i-preserved
-loop-i-preserved c =
+loop-i-preserved g c =
     let outer = c.args.outer.now in
-    let inner = c.args.inner.now in
+    let inner = map g.H.HasMap.held_map c.args.inner.now in
     let leads = c.args.leads.now in
     let i = c.loop-i.i in
     let s = source_at outer i (omega arith) in
@@ -20,9 +20,9 @@ loop-i-preserved c =
     omega (arith, count, next, sum, left)
 
 pub returns-then-count-left : goal.returns-then-count-left
-returns-then-count-left c =
+returns-then-count-left g c =
     let outer = c.args.outer.now in
-    let inner = c.args.inner.now in
+    let inner = map g.H.HasMap.held_map c.args.inner.now in
     let leads = c.args.leads.now in
     let i = c.loop-i.i in
     let s = source_at outer i (omega arith) in

@@ -9,9 +9,9 @@ use Rattle.smap_compose.proofs.StandingLemmas.{next_standing}
 use Rattle.smap_compose.proofs.standing.standing_sources.Goals as goal
 
 pub loop-i-preserved : goal.loop-i-preserved
-loop-i-preserved c =
+loop-i-preserved g c =
     let outer = c.args.outer.now in
-    let inner = c.args.inner.now in
+    let inner = map g.H.HasMap.held_map c.args.inner.now in
     let leads = c.args.leads.now in
     let i = c.loop-i.i in
     let e = entry_of_view c.source.result in
