@@ -24,6 +24,15 @@ smap-maps tidy: --base --absolute --relative --write --drop --diff --json --url-
 smap-maps flatten: --base --write --drop --diff --json --url-bytes --version --help
 smap-maps lint: --format --rule --min-mapped --url-bytes --version --help
 smap-maps repair: --base --write --url-bytes --version --help
+smap-maps extract: --output --url-bytes --version --help
+smap-maps diff: --format --url-bytes --version --help
+smap-maps compose: --write --diff --json --thin --used --url-bytes --version --help
+smap-maps comment: --write --set --remove --url-bytes --version --help
+smap-maps inline: --write --url-bytes --version --help
+smap-maps outline: --write --url-bytes --version --help
+smap-maps rename: --write --source-prefix --strip-common --url-bytes --version --help
+smap-maps contents: --write --remove --add --only --except --url-bytes --version --help
+smap-maps debug-id: --write --url-bytes --version --help
 smap-view: --base --url-bytes --compare --sizes --budget --version --help
 '
 
@@ -36,9 +45,15 @@ smap-trace --url-bytes:
 smap-trace --source-prefix:
 smap-trace -o: FILE
 smap-maps --base:
-smap-maps --format: text gnu github sarif junit json
+smap-maps --format: text gnu github sarif junit json markdown
 smap-maps --rule:
 smap-maps --min-mapped:
+smap-maps --set:
+smap-maps --only:
+smap-maps --except:
+smap-maps --source-prefix:
+smap-maps -o: FILE
+smap-maps --output: FILE
 smap-maps --url-bytes:
 smap-view --base:
 smap-view --url-bytes:

@@ -3,12 +3,16 @@
 
 completion=$rows/../../packaging/completion
 
+commands_of_maps="check tidy flatten lint repair extract diff compose comment inline outline rename contents debug-id"
+
 # The programs, and the commands of two of them.
 all_commands() {
     echo smap
     smap --help | sed -n '/^Commands:/,/^$/s/^  \([a-z]*\) .*/smap \1/p'
-    printf '%s\n' smap-trace smap-view 'smap-maps check' 'smap-maps tidy' 'smap-maps flatten' \
-        'smap-maps lint' 'smap-maps repair'
+    printf '%s\n' smap-trace smap-view
+    for command in $commands_of_maps; do
+        echo "smap-maps $command"
+    done
 }
 
 # The long options that the completion of a shell has for a command, one a line: those of its bash, zsh or
@@ -69,7 +73,7 @@ compare() {
 
 # Says which options that a completion has for a command of smap-maps that command doesn't take.
 refused_by_maps() {
-    for command in check tidy flatten lint repair; do
+    for command in $commands_of_maps; do
         options_in "$1" "smap-maps $command" | while read -r option; do
             smap-maps "$command" "$option" 2>&1 | grep -e 'unexpected argument' -e ' has no '
         done

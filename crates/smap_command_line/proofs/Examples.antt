@@ -148,6 +148,7 @@ of_another : name_of (foreign_option (maps_rows (codes "check" ∷ codes "--diff
 unfolding clap_on_literals
 of_another = refl
 
-alone : clash (maps_rows (codes "tidy" ∷ codes "--drop" ∷ codes "d" ∷ [])) ≡ Some clashes.DropAlone
+alone : clash (maps_rows (codes "tidy" ∷ codes "--drop" ∷ codes "d" ∷ [])) command.Tidy
+    ≡ Some clashes.DropAlone
 unfolding clap_on_literals
 alone = refl

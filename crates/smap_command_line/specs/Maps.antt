@@ -1,5 +1,5 @@
 -- What a command line of `smap-maps` asks for, and what is wrong with it.
-use Rattle.std.specs.Prelude.{◌≡◌, true, false, not, List, [], ◌∷◌, drop, length, map, nat_lt}
+use Rattle.std.specs.Prelude.{◌≡◌, ◌==◌, true, false, not, List, [], ◌∷◌, drop, length, map, nat_lt}
 use Rattle.std.specs.Prelude.{Option, Some, None, Result, Ok, Err, codes, slice_get, if◌then◌else◌}
 use Rattle.std.specs.Prelude.{Bool}
 use Rattle.std.specs.Borrow.{Bor}
@@ -42,12 +42,26 @@ command_named name =
     (if bytes_eq name (codes "tidy") then Some command.Tidy else
     (if bytes_eq name (codes "flatten") then Some command.Flatten else
     (if bytes_eq name (codes "lint") then Some command.Lint else
-    (if bytes_eq name (codes "repair") then Some command.Repair else None))))
+    (if bytes_eq name (codes "repair") then Some command.Repair else
+    (if bytes_eq name (codes "extract") then Some command.Extract else
+    (if bytes_eq name (codes "diff") then Some command.Diff else
+    (if bytes_eq name (codes "compose") then Some command.Compose else
+    (if bytes_eq name (codes "comment") then Some command.Comment else
+    (if bytes_eq name (codes "inline") then Some command.Inline else
+    (if bytes_eq name (codes "outline") then Some command.Outline else
+    (if bytes_eq name (codes "rename") then Some command.Rename else
+    (if bytes_eq name (codes "contents") then Some command.Contents else
+    (if bytes_eq name (codes "debug-id") then Some command.DebugId else None)))))))))))))
 
 -- The first argument is the command, and those behind it are paths.
 abbrev pub command_asked : List Text → Option MapsCommand
 command_asked [] = None
 command_asked (name ∷ texts) = command_named name
+
+-- Behind it is a path at least, and behind `diff` there are two.
+abbrev pub has_paths : {T : Type 0} → MapsCommand → List T → Bool
+has_paths command.Diff texts = length texts == 3
+has_paths k texts = nat_lt 1 (length texts)
 
 -- ---- what is asked for
 
@@ -63,13 +77,13 @@ rewrite asked = rewrite_of (rows_in asked.options)
 abbrev pub relative : MapsWords → Bool
 relative asked = not (has asked.options (codes "absolute"))
 
--- The command has all options that are given, they go together, and there is a path.
+-- The command has all options that are given, they go together, and it has its paths.
 pub record HasCommand (rows : List Row) (asked : MapsCommand) (paths : Vec (Bor Text)) : Type 0 where
   pub named : command_asked (arguments_of rows) ≡ Some asked
   pub own : foreign_option rows asked options ≡ None
-  pub together : clash rows ≡ None
+  pub together : clash rows asked ≡ None
   pub paths_are : map (λ path. path.now) paths.items ≡ drop 1 (arguments_of rows)
-  pub some : nat_lt 1 (length (arguments_of rows)) ≡ true
+  pub some : has_paths asked (arguments_of rows) ≡ true
 
 -- All options are there, and so is what stands beside them.
 pub record Asks (rows : List Row) (asked : MapsWords) : Type 0 where
@@ -97,9 +111,9 @@ Fails rows (fault.NoCommand word) =
     (slice_get (arguments_of rows) 0 ≡ Some word.now) × (command_named word.now ≡ None)
 Fails rows (fault.Foreign k o) = (command_asked (arguments_of rows) ≡ Some k)
     × (foreign_option rows k options ≡ Some (row_view o))
-Fails rows (fault.Clashing why) = (k : MapsCommand) × IsCommand rows k × (clash rows ≡ Some why)
+Fails rows (fault.Clashing why) = (k : MapsCommand) × IsCommand rows k × (clash rows k ≡ Some why)
 Fails rows (fault.NoPath k) =
-    IsCommand rows k × (clash rows ≡ None) × (nat_lt 1 (length (arguments_of rows)) ≡ false)
+    IsCommand rows k × (clash rows k ≡ None) × (has_paths k (arguments_of rows) ≡ false)
 
 -- The first fault: that of the options by themselves, or else that of the command.
 abbrev pub IsFault : List Text → WordFault → Type 0
@@ -115,14 +129,14 @@ IsCommandFault texts (fault.NoCommand word) =
 IsCommandFault texts f = ⊥
 
 abbrev pub IsOptionsFault : List Row → MapsCommand → Result (Unit {0}) WordFault → Type 0
-IsOptionsFault rows k (Ok done) = (foreign_option rows k options ≡ None) × (clash rows ≡ None)
+IsOptionsFault rows k (Ok done) = (foreign_option rows k options ≡ None) × (clash rows k ≡ None)
 IsOptionsFault rows k (Err (fault.Foreign c o)) =
     (c ≡ k) × (foreign_option rows k options ≡ Some (row_view o))
 IsOptionsFault rows k (Err (fault.Clashing why)) =
-    (foreign_option rows k options ≡ None) × (clash rows ≡ Some why)
+    (foreign_option rows k options ≡ None) × (clash rows k ≡ Some why)
 IsOptionsFault rows k (Err f) = ⊥
 
 abbrev pub IsPathFault : List (Bor Text) → MapsCommand → WordFault → Type 0
 IsPathFault texts k (fault.Options option.Memory) = Unit {0}
-IsPathFault texts k (fault.NoPath c) = (c ≡ k) × (nat_lt 1 (length texts) ≡ false)
+IsPathFault texts k (fault.NoPath c) = (c ≡ k) × (has_paths k texts ≡ false)
 IsPathFault texts k f = ⊥

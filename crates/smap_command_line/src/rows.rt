@@ -11,6 +11,15 @@ pub enum MapsCommand {
     Flatten,
     Lint,
     Repair,
+    Extract,
+    Diff,
+    Compose,
+    Comment,
+    Inline,
+    Outline,
+    Rename,
+    Contents,
+    DebugId,
 }
 
 /// Commands of `smap-maps`.
@@ -21,6 +30,15 @@ pub struct Commands {
     pub flatten: bool,
     pub lint: bool,
     pub repair: bool,
+    pub extract: bool,
+    pub diff: bool,
+    pub compose: bool,
+    pub comment: bool,
+    pub inline: bool,
+    pub outline: bool,
+    pub rename: bool,
+    pub contents: bool,
+    pub debug_id: bool,
 }
 
 /// What the value of an option has to be.
@@ -44,8 +62,10 @@ pub enum Value {
     Level,
 }
 
-/// The forms of the findings of `smap-maps lint`.
-pub const FORMATS: [&str; 6] = ["text", "gnu", "github", "sarif", "junit", "json"];
+/// The forms of the findings of `smap-maps lint`, and behind them that of `diff` which `lint` doesn't have.
+pub const FORMATS: [&str; 7] = [
+    "text", "gnu", "github", "sarif", "junit", "json", "markdown",
+];
 
 /// How much a rule of `smap-maps lint` may count.
 pub const LEVELS: [&str; 4] = ["off", "note", "warning", "error"];
@@ -89,6 +109,33 @@ pub(crate) const NO_COMMANDS: Commands = Commands {
     flatten: false,
     lint: false,
     repair: false,
+    extract: false,
+    diff: false,
+    compose: false,
+    comment: false,
+    inline: false,
+    outline: false,
+    rename: false,
+    contents: false,
+    debug_id: false,
+};
+
+/// All commands.
+pub(crate) const ALL_COMMANDS: Commands = Commands {
+    check: true,
+    tidy: true,
+    flatten: true,
+    lint: true,
+    repair: true,
+    extract: true,
+    diff: true,
+    compose: true,
+    comment: true,
+    inline: true,
+    outline: true,
+    rename: true,
+    contents: true,
+    debug_id: true,
 };
 
 /// What most flags have in common.
@@ -134,6 +181,15 @@ impl Commands {
             MapsCommand::Flatten => self.flatten,
             MapsCommand::Lint => self.lint,
             MapsCommand::Repair => self.repair,
+            MapsCommand::Extract => self.extract,
+            MapsCommand::Diff => self.diff,
+            MapsCommand::Compose => self.compose,
+            MapsCommand::Comment => self.comment,
+            MapsCommand::Inline => self.inline,
+            MapsCommand::Outline => self.outline,
+            MapsCommand::Rename => self.rename,
+            MapsCommand::Contents => self.contents,
+            MapsCommand::DebugId => self.debug_id,
         }
     }
 }

@@ -92,13 +92,13 @@ pub record IsDoneTo (told : Told) (held : Held) (asked : MapsWords) (to_do : Wor
   pub counts : Appends middle after (counts_of to_do tally)
   pub worst : status ≡ tally.worst
 
--- what these words ask for; none for `lint`
+-- what is done with each map that these words name, if maps are looked at one after another
 abbrev pub work_of_command : MapsCommand → MapsWords → Option Work
 work_of_command command.Check w = Some (work.Check (has w.options (codes "json")))
 work_of_command command.Tidy w = Some (work.Compare (form.Canonical (relative w)) (rewrite w))
 work_of_command command.Flatten w = Some (work.Compare form.Flat (rewrite w))
 work_of_command command.Repair w = Some (work.Repair (has w.options (codes "write")))
-work_of_command command.Lint w = None
+work_of_command k w = None
 
 abbrev pub work_of : MapsWords → Option Work
 work_of w = work_of_command w.command w
@@ -107,7 +107,8 @@ abbrev pub IsDoneIf : Told → Held → MapsWords → Option Work → Option (Li
 IsDoneIf told held w None before after status = ⊤
 IsDoneIf told held w (Some to_do) before after status = IsDoneTo told held w to_do before after status
 
--- A run that came to its end with this status did what was asked for. Of `lint` nothing is said.
+-- A run that came to its end with this status did what was asked for. Nothing is said of commands that don't
+-- look at maps one after another.
 abbrev pub IsAnswered : Told → Held → List ℕ → List ℕ → Asked → Option (List ℕ) → Option (List ℕ) → ℕ
     → Type 0
 IsAnswered told held help version asked.Help before after status = Appends before after help

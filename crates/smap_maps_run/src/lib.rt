@@ -15,6 +15,7 @@ mod json_lines;
 mod judging;
 mod linting;
 mod looking;
+mod others;
 mod outcome;
 mod placing;
 mod program;

@@ -13,14 +13,13 @@ ghost use Rattle.smap_maps_run.specs.Targets.{NamesAll};
 use crate::Tally;
 use crate::deciding::Work;
 use crate::forms::Form;
-use crate::linting::lint_asked;
 use crate::looking::Case;
+use crate::others::do_other;
 use crate::progress::Progress;
 use crate::reporting::{report, says_something, write_line};
 use crate::targets::{Target, targets_of};
 use smap_command_line::maps::{Asked, HELP, MapsWords, WordFault, maps_words, message};
 use smap_command_line::{MapsCommand, VERSION};
-use smap_lint_run::lint;
 use smap_map_files::{base_given, refuse_options};
 use smap_system::{Disk, Host, Stop, Watched};
 use std::io::Write;
@@ -165,7 +164,7 @@ fn work_on<E: Eprint + AllocGlobal + Clock, D: Disk, W: Write>(
     Ok(tally.worst)
 }
 
-/// What is done with each map that the words name; none for `lint`.
+/// What is done with each map that the words name, if maps are looked at one after another.
 fn work_of(asked: &MapsWords<'_>) -> Option<Work>
     ensures { result ≡ spec.work_of asked.now }
 {
@@ -187,7 +186,7 @@ fn work_of(asked: &MapsWords<'_>) -> Option<Work>
         MapsCommand::Repair => Some(Work::Repair {
             write: options.has("write"),
         }),
-        MapsCommand::Lint => None,
+        _ => None,
     }
 }
 
@@ -203,11 +202,7 @@ fn do_task<E: Eprint + AllocGlobal + Clock, D: Disk, W: Write>(
 {
     match work_of(asked) {
         Some(work) => work_on(host, asked, work, on_terminal, writer),
-        None => {
-            let asked = lint_asked(host.alloc(), asked)?;
-            lint(host, &asked, writer)?;
-            Ok(0)
-        }
+        None => do_other(host, asked, writer),
     }
 }
 

@@ -7,28 +7,60 @@ Usage: smap-maps check [--base URL] [--json] PATH...
        smap-maps flatten [--base URL] [--json] [--write [--drop] | --diff] PATH...
        smap-maps lint [--format FORMAT] [--rule NAME=LEVEL]... [--min-mapped N] FOLDER...
        smap-maps repair [--base URL] [--write] PATH...
+       smap-maps extract PATH... -o DIR
+       smap-maps diff [--format FORMAT] OLD NEW
+       smap-maps compose [--thin] [--used] [--json] [--write | --diff] FOLDER...
+       smap-maps comment (--set URL | --remove) [--write] SCRIPT...
+       smap-maps inline|outline|debug-id [--write] SCRIPT...
+       smap-maps rename (--source-prefix FROM=TO... | --strip-common) [--write] PATH...
+       smap-maps contents (--add | --remove) [--only PATTERN]... [--except PATTERN]... [--write] PATH...
 
-Checks, tidies, flattens, lints or repairs source maps: files, and each *.map in folders and below them.
+Works on source maps: files, and each *.map in folders and below them; some commands on scripts.
 
   check       Name each map that smap refuses, with its fault
   tidy        Name each map that isn't in canonical form
   flatten     Name each map that isn't a flat map as smap writes it
   lint        Say why maps don't work: of each script and each map of a build, what is wrong
   repair      Name each refused map that a few bytes void, with what would mend it
+  extract     Write the sources that maps hold to a folder
+  diff        Say what differs between two maps
+  compose     Join each map of a folder with the maps of its sources
+  comment     Set or remove the comment by which a script names its map
+  inline      Put the map of a script into its comment
+  outline     Put the map within a script into a file next to it
+  rename      Rename the sources of maps
+  contents    Add or remove the contents of sources
+  debug-id    Give a script and its map the same debug ID
 
   --base URL      A map's URL is URL/ and its path below the folder, instead of the file: URL of the file
                   (check, tidy, flatten, repair)
   --absolute      Write source URLs as they are (tidy)
   --relative      Write source URLs relative to the map's where that round-trips, which is the default (tidy)
-  --write         Rewrite the maps that would change, unless they would lose a member (tidy, flatten, repair)
+  --write         Rewrite the files that would change, unless a map would lose a member (tidy, flatten,
+                  repair, compose, comment, inline, outline, rename, contents, debug-id)
   --drop          Rewrite those too that lose a member, such as debugId, naming each (tidy, flatten)
-  --diff          Show which members would change (tidy, flatten)
-  --json          Write a line of JSON for each map (check, tidy, flatten)
+  --diff          Show which members would change (tidy, flatten, compose)
+  --json          Write a line of JSON for each map (check, tidy, flatten, compose)
   --format FORMAT
-                  Write findings as text, gnu, github, sarif, junit or json (lint)
+                  Write findings as text, gnu, github, sarif, junit or json; differences as text, json or
+                  markdown (lint, diff)
   --rule NAME=LEVEL
                   Set how much a rule counts: off, note, warning or error (lint)
   --min-mapped N  The least part of a script, in percent, that has to be mapped (lint)
+  --set URL       Set the comment of each script that names its map to URL (comment)
+  --remove        Remove the comments, or the contents of sources (comment, contents)
+  --add           Add contents of sources, from the files that the sources name (contents)
+  --only PATTERN  Leave alone sources that fit no PATTERN (contents)
+  --except PATTERN
+                  Leave alone sources that fit a PATTERN (contents)
+  --source-prefix FROM=TO
+                  Write TO for FROM at the start of a source's URL. Of several the first that fits counts
+                  (rename)
+  --strip-common  Drop the folders that all sources of a map have in common (rename)
+  --thin          Leave out mappings that change no position's original (compose)
+  --used          Leave out sources that no mapping has (compose)
+  -o, --output DIR
+                  Write the files of sources into DIR (extract)
   --url-bytes N   Refuse a map if the URLs of its sources take more than N bytes (default 67108864)
   -V, --version   Print the version
   -h, --help      Print help

@@ -13,6 +13,15 @@ fn command_text(command: MapsCommand) -> &'static str {
         MapsCommand::Flatten => "flatten",
         MapsCommand::Lint => "lint",
         MapsCommand::Repair => "repair",
+        MapsCommand::Extract => "extract",
+        MapsCommand::Diff => "diff",
+        MapsCommand::Compose => "compose",
+        MapsCommand::Comment => "comment",
+        MapsCommand::Inline => "inline",
+        MapsCommand::Outline => "outline",
+        MapsCommand::Rename => "rename",
+        MapsCommand::Contents => "contents",
+        MapsCommand::DebugId => "debug-id",
     }
 }
 
@@ -22,6 +31,15 @@ fn clash_text(clash: Clash) -> &'static str {
         Clash::RelativeAbsolute => "--relative and --absolute at once",
         Clash::JsonDiff => "--json and --diff at once",
         Clash::DropAlone => "--drop needs --write",
+        Clash::SetRemove => "--set and --remove at once",
+        Clash::AddRemove => "--add and --remove at once",
+        Clash::PrefixCommon => "--source-prefix and --strip-common at once",
+        Clash::NoComment => "comment needs --set or --remove",
+        Clash::NoContents => "contents needs --add or --remove",
+        Clash::NoRenaming => "rename needs --source-prefix or --strip-common",
+        Clash::NoOutput => "extract needs --output",
+        Clash::LintFormat => "lint has no format markdown",
+        Clash::DiffFormat => "diff has the formats text, json and markdown",
     }
 }
 
@@ -36,13 +54,14 @@ pub fn message(alloc: Global, fault: &WordFault<'_>) -> Result<String, AllocErro
         WordFault::Options(fault) => option_message(alloc, fault),
         WordFault::Nothing => String::from_str(alloc, "no command"),
         WordFault::NoCommand(word) => {
-            format!(in alloc; "no such command: {word} (check, tidy, flatten, lint or repair)")
+            format!(in alloc; "no such command: {word} (--help lists them)")
         }
         WordFault::Foreign(command, option) => {
             let (command, name) = (command_text(*command), option.name);
             format!(in alloc; "{command} has no --{name}")
         }
         WordFault::Clashing(clash) => String::from_str(alloc, clash_text(*clash)),
+        WordFault::NoPath(MapsCommand::Diff) => String::from_str(alloc, "diff needs two maps"),
         WordFault::NoPath(command) => {
             let command = command_text(*command);
             format!(in alloc; "{command} needs a file or a folder")

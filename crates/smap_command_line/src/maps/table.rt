@@ -1,8 +1,10 @@
 //! The options of `smap-maps`.
-use crate::rows::{Commands, FLAG, NO_COMMANDS, OptionOf, OptionRow, URL_BYTES, Value};
+use crate::rows::{
+    ALL_COMMANDS, Commands, FLAG, NO_COMMANDS, OptionOf, OptionRow, URL_BYTES, Value,
+};
 
 /// The options, in the order in which the help lists them and they are looked at.
-pub const OPTIONS: [OptionRow; 11] = [
+pub const OPTIONS: [OptionRow; 21] = [
     OptionOf {
         name: "base",
         value: Value::Text,
@@ -45,9 +47,16 @@ pub const OPTIONS: [OptionRow; 11] = [
             tidy: true,
             flatten: true,
             repair: true,
+            compose: true,
+            comment: true,
+            inline: true,
+            outline: true,
+            rename: true,
+            contents: true,
+            debug_id: true,
             ..NO_COMMANDS
         },
-        help: "Rewrite the maps that would change, unless they would lose a member",
+        help: "Rewrite the files that would change, unless a map would lose a member",
         details: "They are named. A refused map is left alone, and so is one that would lose a member, \
                   which is named on standard error. The new map is written to another file in the same \
                   folder, which is then renamed: at any time the map is whole, old or new. A map that \
@@ -72,6 +81,7 @@ pub const OPTIONS: [OptionRow; 11] = [
         commands: Commands {
             tidy: true,
             flatten: true,
+            compose: true,
             ..NO_COMMANDS
         },
         help: "Show which members would change",
@@ -85,6 +95,7 @@ pub const OPTIONS: [OptionRow; 11] = [
             check: true,
             tidy: true,
             flatten: true,
+            compose: true,
             ..NO_COMMANDS
         },
         help: "Write a line of JSON for each map",
@@ -97,12 +108,14 @@ pub const OPTIONS: [OptionRow; 11] = [
         name: "format",
         value: Value::Format,
         value_name: "FORMAT",
-        expected: "text, gnu, github, sarif, junit or json",
+        expected: "text, gnu, github, sarif, junit, json or markdown",
         commands: Commands {
             lint: true,
+            diff: true,
             ..NO_COMMANDS
         },
-        help: "Write findings as text, gnu, github, sarif, junit or json",
+        help: "Write findings as text, gnu, github, sarif, junit or json; differences as text, json or \
+               markdown",
         ..FLAG
     },
     OptionOf {
@@ -131,13 +144,114 @@ pub const OPTIONS: [OptionRow; 11] = [
         ..FLAG
     },
     OptionOf {
+        name: "set",
+        value: Value::Text,
+        value_name: "URL",
         commands: Commands {
-            check: true,
-            tidy: true,
-            flatten: true,
-            lint: true,
-            repair: true,
+            comment: true,
+            ..NO_COMMANDS
         },
+        help: "Set the comment of each script that names its map to URL",
+        ..FLAG
+    },
+    OptionOf {
+        name: "remove",
+        commands: Commands {
+            comment: true,
+            contents: true,
+            ..NO_COMMANDS
+        },
+        help: "Remove the comments, or the contents of sources",
+        ..FLAG
+    },
+    OptionOf {
+        name: "add",
+        commands: Commands {
+            contents: true,
+            ..NO_COMMANDS
+        },
+        help: "Add contents of sources, from the files that the sources name",
+        ..FLAG
+    },
+    OptionOf {
+        name: "only",
+        value: Value::Text,
+        value_name: "PATTERN",
+        repeats: true,
+        commands: Commands {
+            contents: true,
+            ..NO_COMMANDS
+        },
+        help: "Leave alone sources that fit no PATTERN",
+        ..FLAG
+    },
+    OptionOf {
+        name: "except",
+        value: Value::Text,
+        value_name: "PATTERN",
+        repeats: true,
+        commands: Commands {
+            contents: true,
+            ..NO_COMMANDS
+        },
+        help: "Leave alone sources that fit a PATTERN",
+        ..FLAG
+    },
+    OptionOf {
+        name: "source-prefix",
+        value: Value::Pair,
+        value_name: "FROM=TO",
+        expected: "FROM=TO",
+        repeats: true,
+        commands: Commands {
+            rename: true,
+            ..NO_COMMANDS
+        },
+        help: "Write TO for FROM at the start of a source's URL. Of several the first that fits counts",
+        ..FLAG
+    },
+    OptionOf {
+        name: "strip-common",
+        commands: Commands {
+            rename: true,
+            ..NO_COMMANDS
+        },
+        help: "Drop the folders that all sources of a map have in common",
+        ..FLAG
+    },
+    OptionOf {
+        name: "thin",
+        commands: Commands {
+            compose: true,
+            ..NO_COMMANDS
+        },
+        help: "Leave out mappings that change no position's original",
+        ..FLAG
+    },
+    OptionOf {
+        name: "used",
+        commands: Commands {
+            compose: true,
+            ..NO_COMMANDS
+        },
+        help: "Leave out sources that no mapping has",
+        ..FLAG
+    },
+    OptionOf {
+        name: "output",
+        short: Some('o'),
+        value: Value::File,
+        value_name: "DIR",
+        expected: "the name of a folder",
+        commands: Commands {
+            extract: true,
+            ..NO_COMMANDS
+        },
+        help: "Write the files of sources into DIR",
+        ..FLAG
+    },
+    OptionOf {
+        commands: ALL_COMMANDS,
         ..URL_BYTES
     },
 ];

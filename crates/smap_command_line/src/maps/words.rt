@@ -15,7 +15,7 @@ use crate::rows::{MapsCommand, OptionRow};
 use std::alloc::{AllocError, Global};
 
 /// What an error of `clap` shows of how the program is called.
-const USAGE: &str = "smap-maps check|tidy|flatten|lint|repair [OPTION]... PATH...";
+const USAGE: &str = "smap-maps COMMAND [OPTION]... PATH...";
 
 /// What becomes of a map that would change.
 #[derive(Clone, Copy, Debug, PartialEq, Eq)]
@@ -73,7 +73,7 @@ pub enum WordFault<'a> {
     Foreign(MapsCommand, OptionRow),
     /// Options don't go together.
     Clashing(Clash),
-    /// The command has no path.
+    /// The command has no path, or `diff` not two.
     NoPath(MapsCommand),
 }
 
@@ -134,6 +134,15 @@ fn command_in(name: &str) -> Option<MapsCommand>
         "flatten" => Some(MapsCommand::Flatten),
         "lint" => Some(MapsCommand::Lint),
         "repair" => Some(MapsCommand::Repair),
+        "extract" => Some(MapsCommand::Extract),
+        "diff" => Some(MapsCommand::Diff),
+        "compose" => Some(MapsCommand::Compose),
+        "comment" => Some(MapsCommand::Comment),
+        "inline" => Some(MapsCommand::Inline),
+        "outline" => Some(MapsCommand::Outline),
+        "rename" => Some(MapsCommand::Rename),
+        "contents" => Some(MapsCommand::Contents),
+        "debug-id" => Some(MapsCommand::DebugId),
         _ => None,
     }
 }
@@ -159,9 +168,19 @@ fn check_options<'a>(options: &Options<'_>, command: MapsCommand) -> Result<(), 
     if let Some(row) = foreign_option(options, command, &OPTIONS) {
         return Err(WordFault::Foreign(command, row));
     }
-    match clash_of(options) {
+    match clash_of(options, command) {
         Some(clash) => Err(WordFault::Clashing(clash)),
         None => Ok(()),
+    }
+}
+
+/// Whether what is behind the command is paths enough.
+fn has_paths(texts: &[&str], command: MapsCommand) -> bool
+    ensures { result ≡ spec.has_paths command texts.now }
+{
+    match command {
+        MapsCommand::Diff => texts.len() == 3,
+        _ => texts.len() > 1,
     }
 }
 
@@ -173,10 +192,10 @@ fn paths_in<'a>(
 ) -> Result<Vec<&'a str>, WordFault<'a>>
     ensures paths { IfOk result (λ paths. map (λ s. s.now) paths.items
         ≡ drop 1 (map (λ s. s.now) texts.now)) }
-    ensures some { OnOk result (nat_lt 1 (length texts.now) ≡ true) }
+    ensures some { OnOk result (spec.has_paths command texts.now ≡ true) }
     ensures fault { IfErr result (IsPathFault texts.now command) }
 {
-    if texts.len() < 2 {
+    if !has_paths(texts, command) {
         return Err(WordFault::NoPath(command));
     }
     Ok(Vec::from_slice(alloc, &texts[1..])?)
