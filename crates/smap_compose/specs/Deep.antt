@@ -1,6 +1,6 @@
 -- Maps whose sources lead on at every depth. What a source leads to depends on the source alone.
 use Rattle.std.specs.Prelude.{◌≡◌, ℕ, zero, suc, List, [], slice_get, unwrap_or}
-use Rattle.std.specs.Prelude.{Option, Some, option_map}
+use Rattle.std.specs.Prelude.{Option, None, Some, option_map}
 use Rattle.std.specs.Global.{Vec}
 use Rattle.smap_record.specs.Record.{Entry, ReadMap, Record, record_of}
 use Rattle.smap_compose.specs.Composing.{Maps, composition}
@@ -24,3 +24,8 @@ numbers_at leads k = unwrap_or (option_map (λ v. v.items) (slice_get leads k)) 
 abbrev pub AllLead : List ReadMap → Maps → List (Vec (Option ℕ)) → Type 0
 AllLead maps find leads =
     (k : ℕ) (m : ReadMap) → slice_get maps k ≡ Some m → Lead maps find m (numbers_at leads k)
+
+-- for private contracts: the maps as they were composed last, or as they are
+abbrev pub latest : List ReadMap → Option (Vec ReadMap) → List ReadMap
+latest maps None = maps
+latest maps (Some all) = all.items

@@ -2,8 +2,9 @@
 ghost use Rattle.std.specs.Prelude.{◌≡◌, ◌+◌, IfOk, List, ℕ, map as mapped};
 ghost use Rattle.smap_record.specs.Record.{ReadMap, record_of};
 ghost use Rattle.smap_trace.specs.LineStarts.{line_starts};
-ghost use Rattle.smap_compose.specs.Composing.{Maps};
+ghost use Rattle.smap_compose.specs.Composing.{Maps, composition};
 ghost use Rattle.smap_compose.specs.Deep.{AllLead, Lead, composed, numbers_at};
+ghost use Rattle.smap_compose.specs.Deep as spec;
 
 use crate::composing::compose_by;
 use crate::error::ComposeError;
@@ -22,10 +23,12 @@ fn compose_one(
     limits: Limits,
 ) -> Result<SourceMap, ComposeError>
     requires { tables.now ≡ mapped (λ m. line_starts (record_of m).mappings) inner.now }
-    ensures { IfOk result (λ m. (maps : List ReadMap) (n : ℕ) (find : Maps)
+    ensures deep { IfOk result (λ m. (maps : List ReadMap) (n : ℕ) (find : Maps)
         → Lead maps find map.now numbers.now
         → mapped record_of inner.now ≡ mapped (λ x. composed n find (record_of x)) maps
         → record_of m ≡ composed (n + 1) find (record_of map.now)) }
+    ensures some { IfOk result (λ m. (found : Maps)
+        × (record_of m ≡ composition (record_of map.now) found)) }
 {
     // What this call promises besides the count: the sources of a map's mappings are listed.
     let _ = map.token_count();
@@ -65,7 +68,9 @@ fn compose_each(
 }
 
 /// The maps as they were composed last, or as they are.
-fn latest<'a>(maps: &'a [SourceMap], closed: &'a Option<Vec<SourceMap>>) -> &'a [SourceMap] {
+fn latest<'a>(maps: &'a [SourceMap], closed: &'a Option<Vec<SourceMap>>) -> &'a [SourceMap]
+    ensures { result.now ≡ spec.latest maps.now closed.now }
+{
     match closed {
         Some(all) => all.as_slice(),
         None => maps,
@@ -91,12 +96,15 @@ pub fn compose_deep(
     below: usize,
     limits: Limits,
 ) -> Result<SourceMap, ComposeError>
-    ensures { IfOk result (λ m. (find : Maps) → Lead maps.now find outer.now numbers.now
+    ensures deep { IfOk result (λ m. (find : Maps) → Lead maps.now find outer.now numbers.now
         → AllLead maps.now find leads.now
         → record_of m ≡ composed (below + 1) find (record_of outer.now)) }
+    ensures some { IfOk result (λ m. (found : Maps)
+        × (record_of m ≡ composition (record_of outer.now) found)) }
 {
     let mut closed = None;
-    for _ in 0..below {
+    for done in 0..below {
+        let _ = done;
         closed = Some(compose_each(alloc, maps, latest(maps, &closed), leads, limits)?);
     }
     let inner = latest(maps, &closed);

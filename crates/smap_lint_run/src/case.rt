@@ -3,7 +3,7 @@ use crate::book::Book;
 use crate::folder::Folder;
 use smap_fault_places::{point_of, range_of};
 use smap_link::script_url;
-use smap_lint_rules::{Check, Members, Pair, Remark, Script, lint_pair, members_of};
+use smap_lint_rules::{Chains, Check, Members, Pair, Remark, Script, lint_pair, members_of};
 use smap_map_files::MapText;
 use smap_record::{Base, BaseFault, Fault, Limits, ReadError, SourceMap, map_tree};
 use smap_report::Point;
@@ -125,6 +125,7 @@ impl Case<'_, '_> {
         members: &Members,
     ) -> Result<Vec<Remark>, AllocError> {
         let (missing, stale) = self.look_for_sources(disk, map)?;
+        let open = self.look_for_scripts(disk, map)?;
         let pair = Pair {
             map,
             members,
@@ -134,6 +135,11 @@ impl Case<'_, '_> {
             min_mapped: self.book.min_mapped,
             missing,
             stale,
+            chains: Chains {
+                files: open.files,
+                named: &open.named,
+                there: open.there,
+            },
         };
         lint_pair(self.book.alloc, &pair)
     }

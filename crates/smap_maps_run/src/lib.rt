@@ -9,6 +9,7 @@
 //! of the map's file ([`said_name`]). A [`Tally`] counts maps by their statuses.
 #![tactic(auto)]
 
+mod composing;
 mod deciding;
 mod forms;
 mod json_lines;

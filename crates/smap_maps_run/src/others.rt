@@ -1,4 +1,5 @@
 //! The commands that don't look at maps one after another.
+use crate::composing::compose;
 use crate::linting::lint_asked;
 use smap_command_line::MapsCommand;
 use smap_command_line::maps::MapsWords;
@@ -28,15 +29,6 @@ fn extract<E: Eprint + AllocGlobal, D: Disk, W: Write>(
 
 /// Says what differs between two maps.
 fn diff<E: Eprint + AllocGlobal, D: Disk, W: Write>(
-    host: &Host<'_, E, D>,
-    _asked: &MapsWords<'_>,
-    _writer: &mut Watched<W>,
-) -> Result<u8, Stop> {
-    Err(host.fail(2, "not yet"))
-}
-
-/// Composes the maps of folders.
-fn compose<E: Eprint + AllocGlobal, D: Disk, W: Write>(
     host: &Host<'_, E, D>,
     _asked: &MapsWords<'_>,
     _writer: &mut Watched<W>,

@@ -1,7 +1,7 @@
 //! A file that gets other bytes.
 ghost use Rattle.std.specs.Prelude.{OnOk, string_bytes};
 ghost use Rattle.std.specs.Io.KnownBytes.{Appends};
-ghost use Rattle.smap_maps_run.specs.Looking.{IsDue};
+ghost use Rattle.smap_maps_run.specs.Composing.{MayHold};
 
 use crate::Failure;
 use crate::looking::Case;
@@ -10,7 +10,7 @@ use std::io::{self, Write};
 
 /// Writes what the file of a map is to hold, and waits until it is there.
 fn write<D: Disk>(case: &Case<'_, D>, writer: &mut D::Writer, text: &[u8]) -> io::Result<()>
-    requires { IsDue (D.held case.now.disk.now) (string_bytes case.now.target.now.file)
+    requires { MayHold (D.held case.now.disk.now) (string_bytes case.now.target.now.file)
         case.now.target.now.url.items case.now.url_bytes case.now.work text.now }
     ensures { OnOk result (Appends (D.Writer.contents writer.old) (D.Writer.contents writer.new) text.now) }
 {
@@ -28,7 +28,7 @@ fn is_same<D: Disk>(disk: &D, path: &str, stamp: Stamp) -> bool {
 /// in full, and then takes its name. Where this fails, the file is as it was, or as another program has
 /// written it.
 pub(crate) fn replace<D: Disk>(case: &Case<'_, D>, stamp: Stamp, text: &[u8]) -> Result<(), Failure>
-    requires { IsDue (D.held case.now.disk.now) (string_bytes case.now.target.now.file)
+    requires { MayHold (D.held case.now.disk.now) (string_bytes case.now.target.now.file)
         case.now.target.now.url.items case.now.url_bytes case.now.work text.now }
 {
     let (disk, path) = (case.disk, case.target.file.as_str());
