@@ -26,7 +26,7 @@ smap-maps lint: --format --rule --min-mapped --url-bytes --version --help
 smap-maps repair: --base --write --url-bytes --version --help
 smap-maps extract: --output --url-bytes --version --help
 smap-maps diff: --format --url-bytes --version --help
-smap-maps compose: --write --diff --json --thin --used --url-bytes --version --help
+smap-maps compose: --write --drop --diff --json --thin --used --url-bytes --version --help
 smap-maps comment: --write --set --remove --url-bytes --version --help
 smap-maps inline: --write --url-bytes --version --help
 smap-maps outline: --write --url-bytes --version --help

@@ -103,8 +103,8 @@ pub fn compose_deep(
         × (record_of m ≡ composition (record_of outer.now) found)) }
 {
     let mut closed = None;
-    for done in 0..below {
-        let _ = done;
+    for level in 0..below {
+        let _ = level;
         closed = Some(compose_each(alloc, maps, latest(maps, &closed), leads, limits)?);
     }
     let inner = latest(maps, &closed);

@@ -196,11 +196,7 @@ fn open_words(
 }
 
 /// The first source whose content names a map.
-fn open_content(
-    alloc: Global,
-    map: &SourceMap,
-    folder: &str,
-) -> Result<Option<String>, AllocError>
+fn open_content(alloc: Global, map: &SourceMap, folder: &str) -> Result<Option<String>, AllocError>
     ensures { IfOk result (λ t. option_map string_bytes t ≡ spec.open_content map.now folder.now) }
 {
     let Some(first) = first_open(map) else {

@@ -1,32 +1,22 @@
 -- Which map a source has: a source is looked at as a script of a folder, or of none.
-use Rattle.std.specs.Prelude.{◌≡◌, ℕ, List, Option, Some, None, false}
+use Rattle.std.specs.Prelude.{◌≡◌, ℕ, Bool, true, false, List, [], Option, Some, None}
 use Rattle.smap_link.specs.Inline.{is_data}
 use Rattle.smap_link.specs.Kinds.{link_in}
 use Rattle.smap_link.specs.Names.{script_name}
 use Rattle.smap_link.specs.Paths.{bare}
-use Rattle.smap_map_choice.specs.Named.{IsGarbled, IsInline}
-use Rattle.smap_map_choice.specs.declared.named.NamedFault.{NamedFault}
 use Rattle.smap_map_choice.specs.declared.named.NamedFault.TheVariants as fault
 use Rattle.smap_map_files.specs.Target.{IsTarget}
 use Rattle.smap_map_files.specs.declared.target.Target.{Target}
 use Rattle.smap_map_files.specs.declared.target.Target.TheVariants as target
 use Rattle.smap_lint_run.specs.declared.source_maps.Lead.{Lead}
 
--- Why a script outside of the folder has no map by a URL.
-abbrev pub IsOutside : List ℕ → NamedFault → Type 0
-IsOutside named fault.Garbled = IsGarbled named
-IsOutside named fault.Leaves = is_data named ≡ false
-IsOutside named why = ⊥
-
--- What such a script names by a URL: a map in its text alone.
-abbrev pub IsOwnTarget : List ℕ → Target → Type 0
-IsOwnTarget named (target.Inline bytes) = IsInline named bytes.items
-IsOwnTarget named (target.File found) = ⊥
-IsOwnTarget named (target.Absent found why) = ⊥
-IsOwnTarget named (target.Wrong why) = IsOutside named why
+-- What a script outside of the folder names: a map in its text, where no folder counts, and else no file.
+abbrev pub IsOwnTarget : Bool → List ℕ → List ℕ → Target → Type 0
+IsOwnTarget true folder named t = IsTarget folder [] named t
+IsOwnTarget false folder named t = t ≡ target.Wrong fault.Leaves
 
 abbrev pub IsTargetIf : List ℕ → Option (List ℕ) → List ℕ → Target → Type 0
-IsTargetIf folder None named t = IsOwnTarget named t
+IsTargetIf folder None named t = IsOwnTarget (is_data named) folder named t
 IsTargetIf folder (Some name) named t = IsTarget folder name named t
 
 -- What the source with this URL names by another, seen from the folder with a URL.

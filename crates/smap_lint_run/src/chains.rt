@@ -42,11 +42,6 @@ impl Chain {
         }
     }
 
-    /// How many sources of the first map are followed.
-    pub fn followed(&self) -> usize {
-        self.numbers.iter().filter(|number| number.is_some()).count()
-    }
-
     /// Says why a map that is there can't be followed.
     pub(crate) fn refuse(&mut self, refusal: String) -> Result<Option<usize>, AllocError> {
         match self.refusals.push(refusal) {

@@ -102,14 +102,10 @@ impl<'a, D: Disk> Search<'a, D> {
     }
 
     /// A source with this text, and what it names.
-    fn found(
-        &self,
-        source: SourceView<'_>,
-        text: &[u8],
-        lead: &Lead,
-    ) -> Result<Found, AllocError> {
+    fn found(&self, source: SourceView<'_>, text: &[u8], lead: &Lead) -> Result<Found, AllocError> {
         let (alloc, url) = (self.alloc, source.url.unwrap_or(""));
-        let is_stale = matches!(lead.target, Target::File(_)) && self.is_stale(url, source.content)?;
+        let is_stale = matches!(lead.target, Target::File(_))
+            && self.is_stale(url, source.content)?;
         Ok(Found {
             url: String::from_str(alloc, url)?,
             shown: printable(alloc, own_part(self.home, url).as_bytes())?,

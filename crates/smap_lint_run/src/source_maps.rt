@@ -1,9 +1,9 @@
 //! Which map a source has: each source is looked at as a script, which names its map in its last comment.
 ghost use Rattle.std.specs.Prelude.{IfOk};
-ghost use Rattle.smap_lint_run.specs.SourceMaps.{IsLead, IsOwnTarget, IsSourceTarget};
+ghost use Rattle.smap_lint_run.specs.SourceMaps.{IsLead, IsSourceTarget};
 
 use crate::folder::has_no_size;
-use smap_link::{InlineFault, bare, inline_map, link_in, script_name};
+use smap_link::{bare, is_data, link_in, script_name};
 use smap_map_choice::NamedFault;
 use smap_map_files::{Home, Target, is_within, target_of};
 use smap_record::SourceView;
@@ -35,22 +35,8 @@ pub(crate) struct Lead {
     pub(crate) target: Target,
 }
 
-/// What a script outside of the folder names by a URL.
-fn own_target(alloc: Global, named: &[u8]) -> Result<Target, AllocError>
-    ensures { IfOk result (IsOwnTarget named.now) }
-{
-    match inline_map(alloc, named) {
-        Ok(Some(bytes)) => Ok(Target::Inline(bytes)),
-        Ok(None) => Ok(Target::Wrong(NamedFault::Leaves)),
-        Err(fault) => match fault {
-            InlineFault::Memory => Err(AllocError),
-            _ => Ok(Target::Wrong(NamedFault::Garbled)),
-        },
-    }
-}
-
-/// What the source with this URL names by another: in the folder as its scripts do, and outside of it a map in
-/// its text alone.
+/// What the source with this URL names by another: in the folder as its scripts do, and outside of it a map
+/// in its text alone.
 fn source_target<D: Disk>(
     alloc: Global,
     disk: &D,
@@ -62,7 +48,8 @@ fn source_target<D: Disk>(
 {
     match script_name(alloc, home.url, bare(url.as_bytes()))? {
         Some(name) => target_of(alloc, disk, home, &name, named),
-        None => own_target(alloc, named),
+        None if is_data(named) => target_of(alloc, disk, home, b"", named),
+        None => Ok(Target::Wrong(NamedFault::Leaves)),
     }
 }
 

@@ -22,7 +22,7 @@ use crate::{Failure, Outcome, Verdict, unread};
 use smap_canon::canonical_in;
 use smap_command_line::maps::{MapsWords, Rewrite};
 use smap_compose::{ComposeError, compose_deep, only_used, thin};
-use smap_lint_run::{Chain, chain_of};
+use smap_lint_run::{Chain, chain_of, chain_remarks};
 use smap_map_files::MapText;
 use smap_record::{Base, Limits, SourceMap};
 use smap_system::{Disk, Host, Stop, Watched};
@@ -70,7 +70,12 @@ fn used_if(alloc: Global, map: SourceMap, asked: bool) -> Result<SourceMap, Allo
 }
 
 /// The canonical text of a map as it is asked for.
-fn finished_text(alloc: Global, base: &Base, map: SourceMap, job: Job) -> Result<Vec<u8>, AllocError>
+fn finished_text(
+    alloc: Global,
+    base: &Base,
+    map: SourceMap,
+    job: Job,
+) -> Result<Vec<u8>, AllocError>
     ensures { IfOk result (λ text. text.items ≡ canonical_text_in (form_asked true) base.now
         (spec.finished job.thin job.used (record_of map))) }
 {
@@ -133,12 +138,7 @@ fn rewritten<D: Disk>(case: &Case<'_, D>, file: &MapFile, text: &[u8]) -> Verdic
 }
 
 /// What becomes of a map where its composition is this text, of other bytes.
-fn changed<D: Disk>(
-    case: &Case<'_, D>,
-    file: &MapFile,
-    rewrite: Rewrite,
-    text: &[u8],
-) -> Outcome
+fn changed<D: Disk>(case: &Case<'_, D>, file: &MapFile, rewrite: Rewrite, text: &[u8]) -> Outcome
     requires file { IsFileOf (D.held case.now.disk.now) (string_bytes case.now.target.now.file)
         case.now.target.now.url.items file.now }
     requires text { IsComposedTo file.now.base case.now.url_bytes file.now.bytes.items text.now }
@@ -160,8 +160,8 @@ fn changed<D: Disk>(
     }
 }
 
-/// What becomes of a map with those of a chain, with so many levels below the first; none where the composition
-/// would list too much.
+/// What becomes of a map with those of a chain, with so many levels below the first; none where the
+/// composition would list too much.
 fn followed_outcome<D: Disk>(
     case: &Case<'_, D>,
     file: &MapFile,
@@ -175,93 +175,14 @@ fn followed_outcome<D: Disk>(
     requires reads { reading_within file.now.base usual case.now.url_bytes file.now.bytes.items
         ≡ Ok (Some map.now) }
 {
-    match composed_text(case.alloc, &file.base, map, chain, below, job)? {
-        Some(text) if text.as_slice() == file.bytes.as_slice() => {
-            Ok(Some(plain(case.alloc, Verdict::Unchanged)))
-        }
-        Some(text) => Ok(Some(changed(case, file, job.rewrite, &text))),
-        None => Ok(None),
+    let text = composed_text(case.alloc, &file.base, map, chain, below, job)?;
+    let Some(text) = text else {
+        return Ok(None);
+    };
+    if text.as_slice() == file.bytes.as_slice() {
+        return Ok(Some(plain(case.alloc, Verdict::Unchanged)));
     }
-}
-
-/// How many sources are followed, and how deep.
-fn followed_words(
-    alloc: Global,
-    map: &SourceMap,
-    chain: &Chain,
-    depth: usize,
-) -> Result<String, AllocError> {
-    let (count, total) = (chain.followed(), map.source_count());
-    let sources = if total == 1 { "source" } else { "sources" };
-    let more = if count > 1 { ", .." } else { "" };
-    match &chain.example {
-        Some(example) => {
-            let example = example.as_str();
-            format!(in alloc; "follows {count} of {total} {sources}, {depth} deep: {example}{more}")
-        }
-        None => format!(in alloc; "follows {count} of {total} {sources}, {depth} deep"),
-    }
-}
-
-/// That a source names a map which isn't there, and how many others do.
-fn missed_words(alloc: Global, missed: &str, count: usize) -> Result<String, AllocError> {
-    match count.saturating_sub(1) {
-        0 => String::from_str(alloc, missed),
-        1 => format!(in alloc; "{missed}, nor is that of another source"),
-        more => format!(in alloc; "{missed}, nor are those of {more} others"),
-    }
-}
-
-/// Why the sources of a map aren't followed to their end, if they aren't.
-fn endless_words(chain: &Chain, is_too_much: bool) -> Option<&'static str> {
-    if chain.depth.is_none() {
-        return Some("its sources lead on more than 16 deep, or back to a map before");
-    }
-    if is_too_much {
-        return Some("too many sources or names, once its sources are followed");
-    }
-    None
-}
-
-/// What is said of the sources of a map that stand for others, or don't.
-fn first_remarks(
-    alloc: Global,
-    map: &SourceMap,
-    chain: &Chain,
-    is_too_much: bool,
-) -> Result<Vec<String>, AllocError> {
-    let mut remarks = Vec::new(alloc);
-    match (endless_words(chain, is_too_much), chain.depth) {
-        (Some(words), _) => remarks.push(String::from_str(alloc, words)?)?,
-        (None, Some(depth)) if depth > 0 => {
-            remarks.push(followed_words(alloc, map, chain, depth)?)?;
-        }
-        _ => {}
-    }
-    Ok(remarks)
-}
-
-/// All that is said of the sources of a map.
-fn remarks_of(
-    alloc: Global,
-    map: &SourceMap,
-    chain: Chain,
-    is_too_much: bool,
-) -> Result<Vec<String>, AllocError> {
-    let mut remarks = first_remarks(alloc, map, &chain, is_too_much)?;
-    let Chain {
-        missed,
-        missing,
-        refusals,
-        ..
-    } = chain;
-    if let Some(missed) = missed {
-        remarks.push(missed_words(alloc, missed.as_str(), missing)?)?;
-    }
-    for refusal in refusals {
-        remarks.push(refusal)?;
-    }
-    Ok(remarks)
+    Ok(Some(changed(case, file, job.rewrite, &text)))
 }
 
 /// A map of whose sources nothing is said.
@@ -274,14 +195,17 @@ fn alone(alloc: Global, verdict: Verdict) -> Composed {
 }
 
 /// The maps that its sources lead to.
-fn chain_for<D: Disk>(
-    case: &Case<'_, D>,
-    map: &SourceMap,
-    job: Job,
-) -> Result<Chain, AllocError> {
+fn chain_for<D: Disk>(case: &Case<'_, D>, map: &SourceMap, job: Job) -> Result<Chain, AllocError> {
     let target = case.target;
     let script = target.script().as_bytes();
-    chain_of(case.alloc, case.disk, target.home(), script, map, job.url_bytes)
+    chain_of(
+        case.alloc,
+        case.disk,
+        target.home(),
+        script,
+        map,
+        job.url_bytes,
+    )
 }
 
 /// What becomes of a map, whose file is this, with the maps of its sources.
@@ -303,7 +227,7 @@ fn with_chain<D: Disk>(
         Some(depth) => followed_outcome(case, file, map, &chain, depth.saturating_sub(1), job)?,
     };
     let is_whole = chain.depth.is_some() && chain.refusals.is_empty() && outcome.is_some();
-    let remarks = remarks_of(alloc, map, chain, outcome.is_none())?;
+    let remarks = chain_remarks(alloc, map, chain, outcome.is_none())?;
     Ok(Composed {
         outcome: outcome.unwrap_or_else(|| plain(alloc, Verdict::Unchanged)),
         remarks,
@@ -312,8 +236,7 @@ fn with_chain<D: Disk>(
 }
 
 /// What becomes of a map that is looked at.
-fn looked_at<D: Disk>(case: &Case<'_, D>, job: Job) -> Composed
-{
+fn looked_at<D: Disk>(case: &Case<'_, D>, job: Job) -> Composed {
     let alloc = case.alloc;
     let file = match case.file() {
         Ok(file) => file,
@@ -369,8 +292,8 @@ fn compose_map<E: Eprint + AllocGlobal, D: Disk, W: Write>(
     Ok(outcome.verdict.status().max(least))
 }
 
-/// Composes the maps that the paths name, each with those of its sources. Answers the status of a run that came
-/// to its end: the greatest of all maps'.
+/// Composes the maps that the paths name, each with those of its sources. Answers the status of a run that
+/// came to its end: the greatest of all maps'.
 pub(crate) fn compose<E: Eprint + AllocGlobal, D: Disk, W: Write>(
     host: &Host<'_, E, D>,
     asked: &MapsWords<'_>,

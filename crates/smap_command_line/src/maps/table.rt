@@ -71,6 +71,7 @@ pub const OPTIONS: [OptionRow; 21] = [
         commands: Commands {
             tidy: true,
             flatten: true,
+            compose: true,
             ..NO_COMMANDS
         },
         help: "Rewrite those too that lose a member, such as debugId, naming each",
@@ -100,8 +101,9 @@ pub const OPTIONS: [OptionRow; 21] = [
         },
         help: "Write a line of JSON for each map",
         details: "It has the members path, status, fault, place, line, column, range and, but for \
-                  check, drops, and nothing else but errors of the command line is written. The line, \
-                  the column and the range of bytes are those of the fault in the text of the map.",
+                  check, drops. Nothing else is written but errors of the command line and what compose \
+                  says of sources. The line, the column and the range of bytes are those of the fault \
+                  in the text of the map.",
         ..FLAG
     },
     OptionOf {
