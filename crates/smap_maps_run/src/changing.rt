@@ -1,6 +1,6 @@
-//! What a command line asks of scripts, in the words of `smap_script_run`.
+//! What a command line asks of scripts, in the words of `smap_edits`.
 use smap_command_line::maps::MapsWords;
-use smap_script_run::{ScriptTask, ScriptsAsked};
+use smap_edits::{ScriptTask, ScriptsAsked};
 use std::alloc::{AllocError, Global};
 
 /// What `comment` does with each script.

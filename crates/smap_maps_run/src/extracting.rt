@@ -5,7 +5,7 @@ use crate::reporting::write_line;
 use crate::targets::{Target, targets_of};
 use crate::{Failure, Verdict, remark, said_name, unread};
 use smap_command_line::maps::MapsWords;
-use smap_extract_run::{Extraction, Written, write_files};
+use smap_extract::{Extraction, Written, write_files};
 use smap_link::{FileKind, file_kind, script_url};
 use smap_map_files::{Home, MapText, ScriptMap, map_of as map_of_script};
 use smap_record::{Base, BaseFault};

@@ -1,0 +1,23 @@
+//! The contents of maps' sources, as files. A path is made of a source's URL ([`source_path`]): it leads out of
+//! no folder, and each of its names is one that a file can have on any system. Paths of several sources that
+//! would be one file, or a file and its folder, get numbers ([`placed`]). What maps hold is gathered
+//! ([`Extraction`]), and written below a folder at these paths ([`write_files`]): no file is written outside of
+//! it, none that is there is changed, and no link is followed.
+//!
+//! Case is folded for ASCII letters alone: names that differ in the case of others, or in the normal form of
+//! Unicode, are two. Contracts say which paths there are, and nothing of what is written to a disk, which isn't
+//! the program's alone: who owns the folder can exchange a folder in it between two calls.
+#![tactic(auto)]
+
+mod files;
+mod gathering;
+pub mod laws;
+mod path;
+mod placing;
+mod segments;
+mod writing;
+
+pub use gathering::Extraction;
+pub use path::{SourcePath, source_path};
+pub use placing::placed;
+pub use writing::{Written, write_files};

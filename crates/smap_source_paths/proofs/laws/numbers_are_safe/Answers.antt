@@ -1,5 +1,0 @@
-use Rattle.smap_source_paths.proofs.SafeLemmas.{numbers_are_safe}
-use Rattle.smap_source_paths.proofs.laws.numbers_are_safe.Goals as goal
-
-pub returns : goal.returns
-returns c = numbers_are_safe

@@ -1,7 +1,0 @@
-use Rattle.std.proofs.Common.{◌≡◌, map, take}
-use Rattle.smap_source_paths.specs.Paths.{folder_text}
-use Rattle.smap_source_paths.specs.Segments.{cleaned}
-use Rattle.smap_source_paths.proofs.path.folder_text.Given as goal
-
-abbrev pub invariant-loop-step : goal.invariant-loop-step
-invariant-loop-step l = l.text.items ≡ folder_text (map (λ s. cleaned s.now) (take l.step-index l.steps))

@@ -1,6 +1,0 @@
-use Rattle.std.proofs.Common.{◌≡◌, filter, map}
-use Rattle.smap_source_paths.specs.Paths.{leads}
-use Rattle.smap_source_paths.proofs.path.steps.Given as goal
-
-abbrev pub invariant-loop-segment : goal.invariant-loop-segment
-invariant-loop-segment l = map (λ s. s.now) l.steps.items ≡ filter leads (map (λ s. s.now) l.yielded)

@@ -1,8 +1,0 @@
-use Rattle.std.proofs.Common.{take}
-use Rattle.smap_source_paths.specs.Places.{items_of}
-use Rattle.smap_source_paths.proofs.PlaceLemmas.{StandsAt}
-use Rattle.smap_source_paths.proofs.placing.placed_among.Given as goal
-
-abbrev pub invariant-loop-path : goal.invariant-loop-path
-invariant-loop-path l =
-    StandsAt (items_of l.folders.keys) (items_of l.taken.keys) (take l.path-index l.paths) l.all.items
