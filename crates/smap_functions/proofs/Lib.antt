@@ -5,3 +5,4 @@ pub mod SegmentLemmas
 pub mod SegmentCountLemmas
 pub mod LineLemmas
 pub mod ColumnLemmas
+mod Examples

@@ -1,3 +1,4 @@
+pub mod Brackets
 pub mod Words
 pub mod Functions
 pub mod Nested

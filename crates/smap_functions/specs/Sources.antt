@@ -1,5 +1,6 @@
 -- what is kept of a source's text
-use Rattle.std.specs.Prelude.{ℕ, List}
+use Rattle.std.specs.Prelude.{ℕ, List, IsTrue}
+use Rattle.smap_functions.specs.Brackets.{brackets_match}
 use Rattle.smap_functions.specs.Functions.{AreFunctions}
 use Rattle.smap_functions.specs.Lines.{AreLines}
 use Rattle.smap_functions.specs.declared.found.Function.{Function}
@@ -10,7 +11,8 @@ pub record Source : Type 0 where
   pub functions : List Function
   pub lines : List Line
 
--- They are of this text.
+-- They are of this text, whose brackets match.
 pub record IsOf (text : List ℕ) (s : Source) : Type 0 where
   pub functions : AreFunctions text s.functions
   pub lines : AreLines text s.lines
+  pub brackets : IsTrue (brackets_match text)

@@ -12,6 +12,7 @@ mod items;
 mod level;
 mod lines;
 mod listing;
+mod matching;
 mod renaming;
 mod scan;
 mod segments;

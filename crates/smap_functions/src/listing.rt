@@ -1,10 +1,12 @@
 //! The functions of a text, and the innermost one at a place.
-ghost use Rattle.std.specs.Prelude.{◌≡◌, ◌+◌, ◌<◌, ◌≤◌, IfOk, IfSome, if◌then◌else◌, length};
+ghost use Rattle.std.specs.Prelude.{◌≡◌, ◌+◌, ◌<◌, ◌≤◌, IfOk, IfSome, IsTrue, if◌then◌else◌, length};
+ghost use Rattle.smap_functions.specs.Brackets.{brackets_match};
 ghost use Rattle.smap_functions.specs.Functions.{AreFunctions};
 ghost use Rattle.smap_functions.specs.Functions as spec;
 
 use crate::checked::checked;
 use crate::found::Function;
+use crate::matching::brackets_match;
 use crate::scan::{Scan, Stop};
 use std::alloc::{AllocError, Global};
 
@@ -37,12 +39,18 @@ pub fn functions(
     text: &[u8],
     language: Language,
 ) -> Result<Option<Vec<Function>>, AllocError>
-    ensures { IfOk result (λ o. IfSome o (λ fs. AreFunctions text.now fs.items)) }
+    ensures nested { IfOk result (λ o. IfSome o (λ fs. AreFunctions text.now fs.items)) }
+    ensures matched { IfOk result (λ o. IfSome o (λ fs. IsTrue (brackets_match text.now))) }
 {
-    match scanned(alloc, text, matches!(language, Language::JavaScript)) {
-        Ok(found) => checked(alloc, text, found.as_slice()),
-        Err(Stop::Unmatched) => Ok(None),
-        Err(Stop::Memory) => Err(AllocError),
+    let found = match scanned(alloc, text, matches!(language, Language::JavaScript)) {
+        Ok(found) => found,
+        Err(Stop::Unmatched) => return Ok(None),
+        Err(Stop::Memory) => return Err(AllocError),
+    };
+    if brackets_match(alloc, text)? {
+        checked(alloc, text, found.as_slice())
+    } else {
+        Ok(None)
     }
 }
 
