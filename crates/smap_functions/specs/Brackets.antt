@@ -20,7 +20,7 @@ is_closing b = b == 41 || b == 93 || b == 125
 abbrev pub closing : ℕ → ℕ
 closing b = if b == 40 then 41 else if b == 91 then 93 else 125
 
--- it closes the brackets awaited, the first one first, and those that it opens before
+-- a text closes the brackets that are awaited, the first one first, and those that it opens in between
 abbrev pub closes : List ℕ → List ℕ → Bool
 closes [] [] = true
 closes (c ∷ awaited) [] = false
@@ -30,6 +30,6 @@ closes (c ∷ awaited) (b ∷ text) =
     else if is_closing b then b == c && closes awaited text
     else closes (c ∷ awaited) text
 
--- in a plain text each closes the last one that is open, and none stays open; any other may hide some
+-- in a plain text each closes the last one that is open, and none stays open; others may hide some
 abbrev pub brackets_match : List ℕ → Bool
 brackets_match text = if is_plain text then closes [] text else true

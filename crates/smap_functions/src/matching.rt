@@ -1,4 +1,4 @@
-//! Whether the brackets of a text match, if it has nothing that could hide one.
+//! Whether the brackets of a text match, if nothing in it may hide one.
 ghost use Rattle.std.specs.Prelude.{◌≡◌, IfOk, []};
 ghost use Rattle.smap_functions.specs.Brackets as spec;
 
@@ -7,7 +7,7 @@ use std::alloc::{AllocError, Global};
 fn may_hide(b: u8) -> bool
     ensures { result ≡ spec.may_hide b }
 {
-    b == 34 || (b == 35 || (b == 39 || (b == 47 || (b == 60 || b == 96))))
+    b == b'"' || (b == b'#' || (b == b'\'' || (b == b'/' || (b == b'<' || b == b'`'))))
 }
 
 fn is_plain(text: &[u8]) -> bool
@@ -19,13 +19,13 @@ fn is_plain(text: &[u8]) -> bool
 fn is_opening(b: u8) -> bool
     ensures { result ≡ spec.is_opening b }
 {
-    b == 40 || (b == 91 || b == 123)
+    b == b'(' || (b == b'[' || b == b'{')
 }
 
 fn is_closing(b: u8) -> bool
     ensures { result ≡ spec.is_closing b }
 {
-    b == 41 || (b == 93 || b == 125)
+    b == b')' || (b == b']' || b == b'}')
 }
 
 /// What closes an opening bracket.
@@ -33,9 +33,9 @@ fn closing(b: u8) -> u8
     ensures { result ≡ spec.closing b }
 {
     match b {
-        40 => 41,
-        91 => 93,
-        _ => 125,
+        b'(' => b')',
+        b'[' => b']',
+        _ => b'}',
     }
 }
 
@@ -57,7 +57,7 @@ fn are_closed(alloc: Global, text: &[u8]) -> Result<bool, AllocError>
     Ok(awaited.is_empty())
 }
 
-/// Whether the brackets of a text match, or something may hide one: most texts have that in their first line.
+/// Whether the brackets of a text match, or something may hide one: most texts have that near their start.
 pub(crate) fn brackets_match(alloc: Global, text: &[u8]) -> Result<bool, AllocError>
     ensures { IfOk result (λ b. b ≡ spec.brackets_match text.now) }
 {
