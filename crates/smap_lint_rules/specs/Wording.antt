@@ -25,5 +25,5 @@ place line column = codes "line " ++ (decimal (line + 1) ++ (codes ", column " +
 
 -- scripts without a map, in the file of the first one
 abbrev pub mapless_words : ℕ → List ℕ
-mapless_words count = cond (count == 1) (codes "names no map, and none lies beside it")
+mapless_words count = cond (count == 1) (codes "names no map, and none is next to it")
     (decimal count ++ codes " scripts name no map and have none next to them; this is the first")

@@ -36,17 +36,17 @@ pub const RULES: [Rule; 20] = [
     Rule {
         name: "missing-map",
         level: Level::Warning,
-        summary: "A script has no map: it names none, and none lies beside it.",
+        summary: "A script has no map: it names none, and none is next to it.",
     },
     Rule {
         name: "unused-map",
         level: Level::Warning,
-        summary: "A map lies beside no file of its name, and no script names it.",
+        summary: "A map is next to no file of its name, and no script names it.",
     },
     Rule {
         name: "two-maps",
         level: Level::Warning,
-        summary: "A script names one map, and another one lies beside it.",
+        summary: "A script names one map, and another one is next to it.",
     },
     Rule {
         name: "shared-map",

@@ -59,7 +59,7 @@ pub fn mapless_words(alloc: Global, count: usize) -> Result<String, AllocError>
     ensures { IfOk result (λ t. string_bytes t ≡ spec.mapless_words count) }
 {
     if count == 1 {
-        return String::from_str(alloc, "names no map, and none lies beside it");
+        return String::from_str(alloc, "names no map, and none is next to it");
     }
     format!(in alloc; "{count} scripts name no map and have none next to them; this is the first")
 }

@@ -30,11 +30,11 @@ impl<'a> Script<'a> {
 }
 
 impl<E: Eprint + AllocGlobal, D: Disk> Visit<'_, '_, E, D> {
-    /// Notes the map that lies beside a script which has another one, if there is one.
+    /// Notes the map next to a script which has another one, if there is one.
     fn note_second(&mut self, script: Script<'_>, has: &str) -> Result<(), AllocError> {
         let Script { file, beside, .. } = script;
         if let Some(number) = self.folder.number(beside) {
-            let message = format!(in self.book.alloc; "names {has}, and {beside} lies beside it")?;
+            let message = format!(in self.book.alloc; "names {has}, and {beside} is next to it")?;
             self.book.add(Check::TwoMaps, file, message)?;
             self.use_map(number);
         }

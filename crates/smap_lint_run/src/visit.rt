@@ -46,14 +46,14 @@ impl<E: Eprint + AllocGlobal, D: Disk> Visit<'_, '_, E, D> {
         Ok(bytes)
     }
 
-    /// Notes a map that no script has, unless a file of its name lies beside it, as `a.d.ts` beside
+    /// Notes a map that no script has, unless a file of its name is next to it, as `a.d.ts` next to
     /// `a.d.ts.map`.
     fn note_unused(&mut self, file: &str) -> Result<(), AllocError> {
         let stem = file.strip_suffix(".map").unwrap_or(file);
         if self.host.disk.kind(stem) == Kind::File {
             return Ok(());
         }
-        let message = "no script names this map, and none lies beside it";
+        let message = "no script names this map, and none is next to it";
         self.book.say(Check::UnusedMap, file, message)
     }
 

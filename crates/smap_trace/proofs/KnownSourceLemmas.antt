@@ -15,6 +15,7 @@ use Rattle.smap_trace.specs.Known.{Known, KnowsLess, KnowsMore, KnowsOf, known_i
 use Rattle.smap_trace.specs.Names.{IsOfOrigin}
 use Rattle.smap_record.specs.Record.{Origin}
 use Rattle.smap_trace.specs.declared.known.ScriptSources.{ScriptSources}
+use Rattle.smap_trace.proofs.ByKeyLemmas.{has_key, outer_put, outer_set, same_items, viewed_lookup}
 
 -- ---- by number
 
@@ -47,60 +48,6 @@ inner_put : (es : List (ℕ × Option Source)) (m n : ℕ) (o x : Option Source)
 inner_put [] m n o x h = inner_last n m o x h
 inner_put (e ∷ es) m n o x h = inner_step e es m n o x (inner_put es m n o x) (nat_eq m e.0) refl h
 
--- ---- by the URL of the script
-
-abbrev by_url : List ℕ → Vec ℕ → Bool
-by_url url k = bytes_eq url k.items
-
-same_key : (a b k : List ℕ) → bytes_eq a k ≡ true → bytes_eq b k ≡ true → a ≡ b
-same_key a b k x y = (bytes_eq-Decides a k).0 x ∙ sym ((bytes_eq-Decides b k).0 y)
-
--- what is found in a list with one entry more in front, and what is found in it where the entry is another's
-module _ (url script : List ℕ) (w t : ScriptSources) where
-  outer_step : (k : Vec ℕ) (v : ScriptSources) (l r : Option ScriptSources)
-      → (r ≡ Some t → (l ≡ Some t) ⊎ ((url ≡ script) × (w ≡ t)))
-      → (a : Bool) → bytes_eq script k.items ≡ a → (b : Bool) → bytes_eq url k.items ≡ b
-      → cond a (cond b (Some w) l) (cond b (Some v) r) ≡ Some t
-      → (cond b (Some v) l ≡ Some t) ⊎ ((url ≡ script) × (w ≡ t))
-  outer_step k v l r rest true x true y h = inr (same_key url script k.items y x, same_Some w t h)
-  outer_step k v l r rest true x false y h = inl h
-  outer_step k v l r rest false x true y h = inl h
-  outer_step k v l r rest false x false y h = rest h
-
-  split_lookup : (a : Bool) (e : Vec ℕ × ScriptSources) (es fs : List (Vec ℕ × ScriptSources))
-      → lookup (by_url url) (cond a ((e.0, w) ∷ es) (e ∷ fs))
-      ≡ cond a (cond (by_url url e.0) (Some w) (lookup (by_url url) es))
-      (cond (by_url url e.0) (Some e.1) (lookup (by_url url) fs))
-  split_lookup true e es fs = refl
-  split_lookup false e es fs = refl
-
-  outer_set : (es : List (Vec ℕ × ScriptSources)) → lookup (by_url url) (set_value (by_url script) es w) ≡
-      Some t
-      → (lookup (by_url url) es ≡ Some t) ⊎ ((url ≡ script) × (w ≡ t))
-  outer_set [] h = inl h
-  outer_set (e ∷ es) h = outer_step e.0 e.1 (lookup (by_url url) es)
-      (lookup (by_url url) (set_value (by_url script) es w)) (outer_set es) (by_url script e.0) refl
-      (by_url url e.0) refl (sym (split_lookup (by_url script e.0) e es (set_value (by_url script) es w)) ∙ h)
-
-first_put : (url : List ℕ) (key : Vec ℕ) (w t : ScriptSources) (b : Bool) → bytes_eq url key.items ≡ b
-    → ◌≡◌ {A = Option ScriptSources} (cond b (Some w) None) (Some t)
-    → (◌≡◌ {A = Option ScriptSources} None (Some t)) ⊎ ((url ≡ key.items) × (w ≡ t))
-first_put url key w t true y h = inr ((bytes_eq-Decides url key.items).0 y, same_Some w t h)
-first_put url key w t false y h = inl h
-
-abbrev same_items : Vec ℕ → Vec ℕ → Bool
-same_items a b = bytes_eq a.items b.items
-
-outer_put : (url : List ℕ) (key : Vec ℕ) (w t : ScriptSources) (es : List (Vec ℕ × ScriptSources))
-    → lookup (by_url url) (insert_entry same_items es key w) ≡ Some t
-    → (lookup (by_url url) es ≡ Some t) ⊎ ((url ≡ key.items) × (w ≡ t))
-outer_put url key w t [] h = first_put url key w t (by_url url key) refl h
-outer_put url key w t (e ∷ es) h = outer_step url key.items w t e.0 e.1 (lookup (by_url url) es)
-    (lookup (by_url url) (insert_entry same_items es key w)) (outer_put url key w t es)
-    (bytes_eq key.items e.0.items) refl (by_url url e.0) refl
-    (sym (split_lookup url key.items w t (bytes_eq key.items e.0.items) e es (insert_entry same_items es
-    key w)) ∙ h)
-
 -- ---- both
 
 some_flat : (o : Option (Option Source)) (s : Source) → option_flatten o ≡ Some s → o ≡ Some (Some s)
@@ -110,27 +57,13 @@ some_flat (Some (Some x)) s h = ap (λ (y : Option Source). Some y) h
 
 abbrev pub held_in : List (Vec ℕ × ScriptSources) → List ℕ → ℕ → Option Source
 held_in es url number = option_and_then (λ t. option_flatten (lookup (nat_eq number) t.sources.entries))
-    (lookup (by_url url) es)
-
-script_in : (url : List ℕ) (es : List (Vec ℕ × ScriptSources)) → lookup (bytes_eq url) (known_in es)
-    ≡ option_map (λ (t : ScriptSources). t.sources.entries) (lookup (by_url url) es)
-script_in url [] = refl
-script_in url (e ∷ es) = go (by_url url e.0) e.1 (lookup (bytes_eq url) (known_in es)) (lookup (by_url url)
-    es)
-    (script_in url es)
-  where
-    go : (b : Bool) (t : ScriptSources) (l : Option (List (ℕ × Option Source))) (m : Option ScriptSources)
-        → l ≡ option_map (λ (t : ScriptSources). t.sources.entries) m
-        → cond b (Some t.sources.entries) l
-        ≡ option_map (λ (t : ScriptSources). t.sources.entries) (cond b (Some t) m)
-    go true t l m is = refl
-    go false t l m is = is
+    (lookup (has_key url) es)
 
 pub held_is : (es : List (Vec ℕ × ScriptSources)) (url : List ℕ) (number : ℕ)
     → of_source (known_in es) url number ≡ held_in es url number
 held_is es url number =
     ap (option_and_then (λ (t : List (ℕ × Option Source)). option_flatten (lookup (nat_eq number) t)))
-    (script_in url es) ∙ same (lookup (by_url url) es)
+    (viewed_lookup (λ (t : ScriptSources). t.sources.entries) url es) ∙ same (lookup (has_key url) es)
   where
     same : (m : Option ScriptSources)
         → option_and_then (λ (t : List (ℕ × Option Source)). option_flatten (lookup (nat_eq number) t))
@@ -141,13 +74,13 @@ held_is es url number =
 
 -- a source is put into a script's
 pub put_into : (es fs : List (Vec ℕ × ScriptSources)) (script : List ℕ) (n : ℕ) (o : Option Source)
-    (t w : ScriptSources) → lookup (by_url script) es ≡ Some t → fs ≡ set_value (by_url script) es w
+    (t w : ScriptSources) → lookup (has_key script) es ≡ Some t → fs ≡ set_value (has_key script) es w
     → w.sources.entries ≡ insert_entry nat_eq t.sources.entries n o
     → KnowsMore (known_in es) (known_in fs) script n o
 put_into es fs script n o t w old new put url number s known =
     let h = sym (held_is fs url number) ∙ known in
     option_and_then_some (λ (x : ScriptSources). option_flatten (lookup (nat_eq number) x.sources.entries))
-    (lookup (by_url url) fs) s h
+    (lookup (has_key url) fs) s h
     (λ x at flat. elim (outer_set url script w x es (rw new at at)) [
       | inl was ↦ inl (held_is es url number ∙ rw was flat)
       | inr same ↦
@@ -168,7 +101,7 @@ put_first es gs fs script key n o w stays named new put url number s known =
     let h = sym (held_is fs url number) ∙ known in
     let here = rw stays at new in
     option_and_then_some (λ (x : ScriptSources). option_flatten (lookup (nat_eq number) x.sources.entries))
-    (lookup (by_url url) fs) s h
+    (lookup (has_key url) fs) s h
     (λ x at flat. elim (outer_put url key w x es (rw here at at)) [
       | inl was ↦ inl (held_is es url number ∙ rw was flat)
       | inr same ↦
@@ -183,16 +116,16 @@ put_first es gs fs script key n o w stays named new put url number s known =
 -- ---- what is known of one
 
 pub of_held : (es : List (Vec ℕ × ScriptSources)) (url : List ℕ) (n : ℕ) (t : ScriptSources)
-    (o x : Option Source) → Some t ≡ lookup (by_url url) es → Some o ≡ lookup (nat_eq n) t.sources.entries
+    (o x : Option Source) → Some t ≡ lookup (has_key url) es → Some o ≡ lookup (nat_eq n) t.sources.entries
     → x ≡ o → x ≡ held_in es url n
 of_held es url n t o x a b is = rw (← a, ← b) is
 
 pub of_none_held : (es : List (Vec ℕ × ScriptSources)) (url : List ℕ) (n : ℕ) (t : ScriptSources)
-    → Some t ≡ lookup (by_url url) es → None ≡ lookup (nat_eq n) t.sources.entries → None ≡ held_in es url n
+    → Some t ≡ lookup (has_key url) es → None ≡ lookup (nat_eq n) t.sources.entries → None ≡ held_in es url n
 of_none_held es url n t a b = rw (← a, ← b) refl
 
 pub of_no_script : (es : List (Vec ℕ × ScriptSources)) (url : List ℕ) (n : ℕ)
-    → None ≡ lookup (by_url url) es → None ≡ held_in es url n
+    → None ≡ lookup (has_key url) es → None ≡ held_in es url n
 of_no_script es url n a = rw (← a) refl
 
 pub reads : {A E : Type 0} (r : Result A E) (old mid new : Known) (script : List ℕ) (n : ℕ) (o : Option

@@ -1,3 +1,4 @@
+pub mod ByKeyLemmas
 pub mod ByLengthLemmas
 pub mod CountLemmas
 pub mod CutRelationLemmas
@@ -26,6 +27,7 @@ pub mod SoFarLemmas
 pub mod StartsLemmas
 pub mod TableLemmas
 pub mod TallyLemmas
+pub mod TranslatedLemmas
 mod EndedLemmas
 pub mod NameLemmas
 pub mod KnownSourceLemmas

@@ -6,8 +6,8 @@ use Rattle.smap_io.specs.Lines.{IsWhole, TakesAll}
 use Rattle.smap_io.proofs.LineLemmas.{lines_of-append}
 use Rattle.smap_trace.specs.declared.outcome.Counts.{Counts}
 use Rattle.smap_trace.specs.declared.streaming.Output.{Output}
+use Rattle.smap_trace.specs.declared.translated.Kept.{Kept}
 use Rattle.smap_trace.specs.Giving.{Give, count_line}
-use Rattle.smap_trace.specs.Known.{Known}
 use Rattle.smap_trace.specs.Pieces.{IsFate, TakesLine}
 use Rattle.smap_trace.specs.Translation.{Fate, line_translation_by, lines_of, translation_by, written}
 use Rattle.smap_trace.specs.Views.{outcome_of}
@@ -31,13 +31,13 @@ module _ (may : List ℕ → Fate → Type 0) where
   give_whole whole more t u a b c is g h = rw (lines_of-append whole more is)
       (give_then (lines_of whole) (lines_of more) t u a b c g h)
 
-  module _ (holds : Known → Type 0) where
+  module _ (holds : Kept → Type 0) where
     pub lines_taken : (lines : List (List ℕ)) (old new : Output)
-        → TakesAll (TakesLine may holds) old lines new → holds old.known → holds new.known
+        → TakesAll (TakesLine may holds) old lines new → holds old.kept → holds new.kept
         × ((text : List ℕ) × (new.text.items ≡ old.text.items ++ text)
         × Give may lines text old.counts new.counts)
     lines_taken [] old new t h = (
-      subst (λ (o : Output). holds o.known) (sym t) h,
+      subst (λ (o : Output). holds o.kept) (sym t) h,
       (
         [],
         ap (λ (o : Output). o.text.items) t ∙ sym (append-nil old.text.items),
@@ -68,8 +68,8 @@ module _ (may : List ℕ → Fate → Type 0) where
 
     -- what lines give after nothing
     pub lines_given : (text : List ℕ) (old new : Output) → old.text.items ≡ []
-        → TakesAll (TakesLine may holds) old (lines_of text) new → holds old.known
-        → holds new.known × Give may (lines_of text) new.text.items old.counts new.counts
+        → TakesAll (TakesLine may holds) old (lines_of text) new → holds old.kept
+        → holds new.kept × Give may (lines_of text) new.text.items old.counts new.counts
     lines_given text old new empty t h =
         let all = lines_taken (lines_of text) old new t h in
         let became = all.1 in (
@@ -79,7 +79,7 @@ module _ (may : List ℕ → Fate → Type 0) where
         )
 
     pub last_given : {A E : Type 0} (r : Result A E) (text : List ℕ) (old new : Output)
-        → old.text.items ≡ [] → holds old.known
+        → old.text.items ≡ [] → holds old.kept
         → OnOk r (TakesAll (TakesLine may holds) old (lines_of text) new)
         → OnOk r (Give may (lines_of text) new.text.items old.counts new.counts)
     last_given (Ok x) text old new empty h t = (lines_given text old new empty t h).1

@@ -16,8 +16,8 @@ use Rattle.smap_trace.specs.declared.outcome.Counts.{Counts}
 use Rattle.smap_trace.specs.declared.error.TraceError.{TraceError}
 use Rattle.smap_trace.specs.declared.error.TraceError.TheVariants as error
 use Rattle.smap_trace.specs.declared.streaming.Output.{Output}
+use Rattle.smap_trace.specs.declared.translated.Kept.{Kept}
 use Rattle.smap_trace.specs.Giving.{Give, no_counts}
-use Rattle.smap_trace.specs.Known.{Known}
 use Rattle.smap_trace.specs.Pieces.{EndsTrace, IsFate, TakesLine}
 use Rattle.smap_trace.specs.Streaming.{Gives, GivesAll, GivesBy, GivesPrefix, GivesWhole, Translates}
 use Rattle.smap_trace.specs.Streaming.{TranslatesBy, WritesAll, WritesComplete, WritesPrefix, complete_of}
@@ -79,11 +79,11 @@ module _ {R W : Type 0} (remaining : R → Option (List ℕ)) (contents : W → 
       (inl (inl refl)) (refl, refl)
       (subst (λ w. TookPrefix contents wm w []) (sym same) (0, Took-none contents wm))
 
-  module _ (holds : Known → Type 0) (piece rest : List ℕ) (old new : Output)
+  module _ (holds : Kept → Type 0) (piece rest : List ℕ) (old new : Output)
       (given : Gave remaining rm rn piece) (empty : old.text.items ≡ []) (same : old.counts ≡ c)
-      (known : holds old.known) (t : TakesPiece (TakesLine may holds) line piece rest old new) where
-    took : holds new.known × Give may (lines_of t.whole) new.text.items c new.counts
-    took = rw same at (lines_given may holds t.whole old new empty t.taken known)
+      (kept : holds old.kept) (t : TakesPiece (TakesLine may holds) line piece rest old new) where
+    took : holds new.kept × Give may (lines_of t.whole) new.text.items c new.counts
+    took = rw same at (lines_given may holds t.whole old new empty t.taken kept)
 
     -- what its lines give was written in part
     pub front_with : length piece ≤ most_of_one_read → TookPrefix contents wm wn new.text.items
@@ -93,7 +93,7 @@ module _ {R W : Type 0} (remaining : R → Option (List ℕ)) (contents : W → 
 
     -- or all
     pub after_piece : 0 < length piece → HasNoFeed rest → Took contents wm wn new.text.items
-        → holds new.known × SoFar remaining contents may ro rn wo wn (calls + 1) rest new.counts
+        → holds new.kept × SoFar remaining contents may ro rn wo wn (calls + 1) rest new.counts
     after_piece some free went = (
       took.0,
       record {

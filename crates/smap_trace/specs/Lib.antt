@@ -22,6 +22,7 @@ pub mod Scripts
 pub mod Streaming
 pub mod Table
 pub mod TraceLaws
+pub mod Translated
 pub mod Translation
 pub mod Unnamed
 pub mod Views

@@ -7,10 +7,14 @@ use Rattle.smap_frames.specs.Reading.{frame_of}
 use Rattle.smap_trace.specs.Known.{AreKnown, GivesName, Known}
 use Rattle.smap_trace.specs.Names.{Around, IsRenamed, around_of, mapped}
 use Rattle.smap_trace.specs.Scripts.{Script}
+use Rattle.smap_trace.specs.Translated.{Lines, translation_in}
 use Rattle.smap_trace.specs.Translation.{Fate, fate_by, fate_in, frame_fate, kept, line_translation_by}
 use Rattle.smap_trace.specs.Translation.{map_for, without_line_feed, written}
+use Rattle.smap_trace.specs.Views.{outcome_of}
 use Rattle.smap_trace.specs.declared.match_mode.MatchMode.{MatchMode}
 use Rattle.smap_trace.specs.declared.names.RenamedFrame.{RenamedFrame}
+use Rattle.smap_trace.specs.declared.outcome.LineOutcome.{LineOutcome}
+use Rattle.smap_trace.specs.declared.translated.Kept.{Kept}
 
 -- a frame with this around its position
 abbrev pub with_around : Around → FrameParts → FrameParts
@@ -48,3 +52,16 @@ pub record MayBecome (mode : MatchMode) (scripts : List Script) (hide : Bool) (l
   pub given : Option RenamedFrame
   pub gets : Gets mode.ignore_query scripts (without_line_feed line) given
   pub is : f ≡ fate_with (option_map around_of given) mode scripts hide line
+
+-- ---- what is kept while lines become that
+
+-- A line may become what is kept of it.
+abbrev pub AreTranslated : MatchMode → List Script → Bool → Lines → Type 0
+AreTranslated mode scripts hide lines = (line : List ℕ) (t : List ℕ × LineOutcome)
+    → translation_in lines line ≡ Some t → (f : Fate) × MayBecome mode scripts hide line f
+    × (t.0 ≡ written f line) × (t.1 ≡ outcome_of f)
+
+-- What is known of a source is of its own text, and a line may become what is kept of it.
+abbrev pub AreKept : MatchMode → List Script → Bool → Kept → Type 0
+AreKept mode scripts hide kept = AreKnown mode.ignore_query scripts kept.functions
+    × AreTranslated mode scripts hide kept.lines

@@ -8,20 +8,20 @@ use Rattle.smap_trace.specs.declared.outcome.Counts.{Counts}
 use Rattle.smap_trace.specs.declared.outcome.LineOutcome.{LineOutcome}
 use Rattle.smap_trace.specs.declared.streaming.Output.{Output}
 use Rattle.smap_trace.specs.Giving.{Becomes, Give, count_line}
-use Rattle.smap_trace.specs.Known.{Known}
+use Rattle.smap_trace.specs.declared.translated.Kept.{Kept}
 use Rattle.smap_trace.specs.Translation.{Fate, lines_of}
 
--- If this held of what was known before, it does of what is known after, and a line became something that it
+-- If this held of what was kept before, it does of what is kept after, and a line became something that it
 -- may: the text has that too.
-abbrev pub AppendsLine : (List ℕ → Fate → Type 0) → (Known → Type 0) → List ℕ → Known → List ℕ → Known
+abbrev pub AppendsLine : (List ℕ → Fate → Type 0) → (Kept → Type 0) → List ℕ → Kept → List ℕ → Kept
     → List ℕ → LineOutcome → Type 0
-AppendsLine may holds line known text more longer outcome =
-    holds known → holds more × Becomes may line text longer outcome
+AppendsLine may holds line kept text more longer outcome =
+    holds kept → holds more × Becomes may line text longer outcome
 
 -- The same, and it was counted.
-abbrev pub TakesLine : (List ℕ → Fate → Type 0) → (Known → Type 0) → Output → List ℕ → Output → Type 0
+abbrev pub TakesLine : (List ℕ → Fate → Type 0) → (Kept → Type 0) → Output → List ℕ → Output → Type 0
 TakesLine may holds old line new = (outcome : LineOutcome)
-    × AppendsLine may holds line old.known old.text.items new.known new.text.items outcome
+    × AppendsLine may holds line old.kept old.text.items new.kept new.text.items outcome
     × (new.counts ≡ count_line old.counts outcome)
 
 -- where each line becomes what this function says

@@ -25,6 +25,7 @@ mod searching;
 mod streaming;
 mod table;
 pub mod trace_laws;
+mod translated;
 mod unnamed;
 
 pub use error::TraceError;
@@ -44,4 +45,5 @@ pub use searching::{Positions, search};
 pub use smap_frames::{Frame, frame};
 pub use streaming::{translate, translate_by, translate_in};
 pub use table::{HasMap, Scripts};
+pub use translated::{Kept, TranslatedLines, ends_like_frames};
 pub use unnamed::{LineMode, named_frame, translate_alone_in};

@@ -7,18 +7,18 @@ ghost use Rattle.smap_record.specs.Record.{record_of};
 ghost use Rattle.smap_trace.specs.Anywhere.{pieces_of};
 ghost use Rattle.smap_frames.specs.Frame as frame_spec;
 ghost use Rattle.smap_frames.specs.FrameView.{parts_in};
-ghost use Rattle.smap_trace.specs.Known.{Known};
 ghost use Rattle.smap_trace.specs.Pieces.{AppendsLine, IsFate};
 ghost use Rattle.smap_trace.specs.Translation as spec;
 ghost use Rattle.smap_trace.specs.Translation.{AreDistinct, Fate};
 ghost use Rattle.smap_trace.specs.Views.{outcome_of, scripts_in};
+ghost use Rattle.smap_trace.specs.declared.translated.Kept.{Kept as SpecKept};
 
 use crate::anywhere::push_pieces;
-use crate::known::KnownFunctions;
 use crate::lookups::origin_at;
 use crate::match_mode::MatchMode;
 use crate::outcome::LineOutcome;
 use crate::scripts::{Listed, Maps};
+use crate::translated::Kept;
 use smap_frames::{Frame, frame, push_position};
 use smap_mappings::Memory;
 use smap_record::SourceMap;
@@ -276,18 +276,18 @@ pub(crate) trait Translator {
     // what a line may become
     ghost may: { Self → List ℕ → Fate → Type 0 };
 
-    // what holds of what is known of the functions of sources
-    ghost holds: { Self → Known → Type 0 };
+    // what holds of what is kept
+    ghost holds: { Self → SpecKept → Type 0 };
 
     /// Appends the translation of a line.
     fn translate(
         &self,
         line: &[u8],
-        known: &mut KnownFunctions,
+        kept: &mut Kept,
         out: &mut Vec<u8>,
     ) -> Result<LineOutcome, AllocError>
-        ensures { IfOk result (AppendsLine (may self.now) (holds self.now) line.now known.old out.old.items
-            known.new out.new.items) };
+        ensures { IfOk result (AppendsLine (may self.now) (holds self.now) line.now kept.old out.old.items
+            kept.new out.new.items) };
 }
 
 /// The maps of scripts, and how positions are found and hidden.
@@ -306,7 +306,7 @@ impl<M: Maps> Translator for ByMaps<'_, M> {
     fn translate(
         &self,
         line: &[u8],
-        _: &mut KnownFunctions,
+        _: &mut Kept,
         out: &mut Vec<u8>,
     ) -> Result<LineOutcome, AllocError> {
         translate_found(line, self.maps, self.mode, self.hide, out)

@@ -5,22 +5,22 @@ ghost use Rattle.smap_io.specs.Device.{device_failures, has_ended, is_over};
 ghost use Rattle.smap_io.specs.Limits.{most_calls};
 ghost use Rattle.smap_io.specs.Streams.{streams};
 ghost use Rattle.smap_trace.specs.Giving.{Becomes};
-ghost use Rattle.smap_trace.specs.Known.{AreKnown};
 ghost use Rattle.smap_trace.specs.NamedFates as spec;
-ghost use Rattle.smap_trace.specs.NamedFates.{MayBecome};
+ghost use Rattle.smap_trace.specs.NamedFates.{AreKept, AreTranslated, MayBecome};
 ghost use Rattle.smap_trace.specs.Names.{around_of};
 ghost use Rattle.smap_trace.specs.Streaming.{GivesBy};
 ghost use Rattle.smap_trace.specs.Translation.{written, without_line_feed};
+ghost use Rattle.smap_trace.specs.Pieces.{AppendsLine};
 ghost use Rattle.smap_trace.specs.Views.{outcome_of, scripts_in};
 
 use crate::error::TraceError;
-use crate::known::KnownFunctions;
 use crate::lines::{Translator, cut_feed, map_for, translate_found, translate_frame};
 use crate::match_mode::MatchMode;
 use crate::names::{RenamedFrame, rename_frame};
 use crate::outcome::{Counts, LineOutcome};
 use crate::scripts::{Listed, Maps};
 use crate::streaming::translate_with;
+use crate::translated::{Kept, ends_like_frames};
 use smap_frames::{Frame, frame};
 use smap_io::Device;
 use smap_mappings::Memory;
@@ -120,26 +120,65 @@ struct Naming<'a, M> {
     hide: bool,
 }
 
+impl<M: Maps> Naming<'_, M> {
+    /// Appends the translation of a line, and answers whether it got the name of a function.
+    fn translate_anew(
+        &self,
+        line: &[u8],
+        kept: &mut Kept,
+        out: &mut Vec<u8>,
+    ) -> Result<(LineOutcome, bool), AllocError>
+        ensures stays { kept.new.lines ≡ kept.old.lines }
+        ensures appends { IfOk result (λ o. AppendsLine
+            (MayBecome self.now.mode (M.scripts self.now.maps.now) self.now.hide)
+            (AreKept self.now.mode (M.scripts self.now.maps.now) self.now.hide)
+            line.now kept.old out.old.items kept.new out.new.items o.0) }
+    {
+        let (text, _) = cut_feed(line);
+        let (maps, mode) = (self.maps, self.mode);
+        match rename_frame(
+            self.alloc,
+            text,
+            maps,
+            mode.ignore_query,
+            &mut kept.functions,
+        ) {
+            Ok(given) => {
+                let outcome = translate_given(
+                    self.alloc, line, &given, maps, mode, self.hide, out,
+                )?;
+                Ok((outcome, given.is_some()))
+            }
+            Err(_) => Err(AllocError),
+        }
+    }
+}
+
 impl<M: Maps> Translator for Naming<'_, M> {
     ghost may = { λ s. MayBecome s.mode (M.scripts s.maps.now) s.hide };
 
-    ghost holds = { λ s. AreKnown s.mode.ignore_query (M.scripts s.maps.now) };
+    ghost holds = { λ s. AreKept s.mode (M.scripts s.maps.now) s.hide };
 
     fn translate(
         &self,
         line: &[u8],
-        known: &mut KnownFunctions,
+        kept: &mut Kept,
         out: &mut Vec<u8>,
     ) -> Result<LineOutcome, AllocError> {
-        let (text, _) = cut_feed(line);
-        match rename_frame(self.alloc, text, self.maps, self.mode.ignore_query, known) {
-            Ok(given) => {
-                translate_given(
-                    self.alloc, line, &given, self.maps, self.mode, self.hide, out,
-                )
-            }
-            Err(_) => Err(AllocError),
+        if !ends_like_frames(line) {
+            let (outcome, _) = self.translate_anew(line, kept, out)?;
+            return Ok(outcome);
         }
+        if let Some((text, outcome)) = kept.lines.get(line) {
+            out.extend_from_slice(text)?;
+            return Ok(outcome);
+        }
+        let before = out.len();
+        let (outcome, is_named) = self.translate_anew(line, kept, out)?;
+        if is_named {
+            kept.lines.put(self.alloc, line, &out[before..], outcome)?;
+        }
+        Ok(outcome)
     }
 }
 
@@ -161,14 +200,15 @@ pub fn translate_named_line(
     ensures { IfOk result (λ o. Becomes (MayBecome mode (scripts_in scripts.now) hide) line.now out.old.items
         out.new.items o) }
 {
-    let mut known = KnownFunctions::new(alloc);
+    let mut kept = Kept::new(alloc);
     let lines = Naming {
         alloc,
         maps: &Listed { scripts },
         mode,
         hide,
     };
-    Ok(lines.translate(line, &mut known, out)?)
+    let (outcome, _) = lines.translate_anew(line, &mut kept, out)?;
+    Ok(outcome)
 }
 
 /// Reads a stack trace to its end and writes its translation, as [`translate_in`](crate::translate_in) does,

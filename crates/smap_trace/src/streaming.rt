@@ -8,17 +8,18 @@ ghost use Rattle.smap_io.specs.Lines.{HasNoFeed};
 ghost use Rattle.smap_io.specs.Streams.{Rises, fails_by, streams};
 ghost use Rattle.smap_trace.specs.Giving.{Give, count_line};
 ghost use Rattle.smap_trace.specs.Pieces.{EndsTrace, IsFate, TakesLine};
+ghost use Rattle.smap_trace.specs.Translated.{nothing_kept};
 ghost use Rattle.smap_trace.specs.Streaming.{GivesBy, TranslatesBy, TranslatesTrace, is_write};
 ghost use Rattle.smap_trace.specs.Translation.{AreDistinct, fate_by, lines_of};
 ghost use Rattle.smap_trace.specs.Views.{scripts_in};
 
 use crate::error::TraceError;
-use crate::known::KnownFunctions;
 use crate::lines::{ByMaps, Translator};
 use crate::match_mode::MatchMode;
 use crate::outcome::{Counts, LineOutcome};
 use crate::scripts::{Listed, Maps};
 use crate::table::by_url;
+use crate::translated::Kept;
 use smap_io::{Device, EachLine, MOST_CALLS, take_last, take_piece, write_all, write_and_flush};
 use smap_record::SourceMap;
 use std::alloc::{AllocError, Global};
@@ -51,12 +52,12 @@ fn counted(counts: Counts, outcome: LineOutcome) -> Counts
 }
 
 /// What the lines so far have given: their translations, as far as they aren't written yet, and their counts;
-/// and the functions of the sources that they needed.
+/// and what is kept for the lines to come.
 #[derive(Drop)]
 pub(crate) struct Output {
     text: Vec<u8>,
     counts: Counts,
-    known: KnownFunctions,
+    kept: Kept,
 }
 
 /// What appends the translations of lines, and counts them.
@@ -71,7 +72,7 @@ impl<T: Translator> EachLine<Output> for Translating<'_, T> {
     fn take(&self, so_far: &mut Output, line: &[u8]) -> Result<(), AllocError> {
         let outcome = self
             .lines
-            .translate(line, &mut so_far.known, &mut so_far.text)?;
+            .translate(line, &mut so_far.kept, &mut so_far.text)?;
         so_far.counts = counted(so_far.counts, outcome);
         Ok(())
     }
@@ -81,7 +82,7 @@ impl<T: Translator> EachLine<Output> for Translating<'_, T> {
 fn end_line<T: Translator>(lines: &T, line: &[u8], so_far: &mut Output) -> Result<(), AllocError>
     requires free { HasNoFeed line.now }
     requires empty { so_far.old.text.items ≡ [] }
-    requires holds { T.holds lines.now so_far.old.known }
+    requires holds { T.holds lines.now so_far.old.kept }
     ensures { OnOk result (Give (T.may lines.now) (lines_of line.now) so_far.new.text.items
         so_far.old.counts so_far.new.counts) }
 {
@@ -97,7 +98,7 @@ fn finish<T: Translator, W: Write>(
 ) -> Result<Counts, TraceError>
     requires free { HasNoFeed line.now }
     requires empty { so_far.old.text.items ≡ [] }
-    requires holds { T.holds lines.now so_far.old.known }
+    requires holds { T.holds lines.now so_far.old.kept }
     requires writes { device_failures writer.old < 2 ^ 64 - 1 }
     ensures ends { EndsTrace (T.may lines.now) W.contents writer.old writer.new line.now so_far.old.counts
         result }
@@ -125,7 +126,7 @@ pub(crate) fn translate_with<T: Translator, R: Read, W: Write>(
     requires reads { device_failures reader.old < 2 ^ 64 - 1 }
     requires writes { device_failures writer.old < 2 ^ 64 - 1 }
     requires not_ended { has_ended reader.old ≡ false }
-    requires holds { T.holds lines.now [] }
+    requires holds { T.holds lines.now nothing_kept }
     ensures gives { GivesBy (T.may lines.now)
         (streams R.remaining reader.old reader.new W.contents writer.old writer.new) result }
     ensures calls { MakesAtMost most_calls reader.old reader.new }
@@ -143,7 +144,7 @@ pub(crate) fn translate_with<T: Translator, R: Read, W: Write>(
             translated: 0,
             dropped: 0,
         },
-        known: KnownFunctions::new(alloc),
+        kept: Kept::new(alloc),
     };
     'pieces: for _ in 0..MOST_CALLS {
         so_far.text.clear();

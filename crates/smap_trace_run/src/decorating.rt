@@ -5,8 +5,8 @@ ghost use Rattle.std.specs.Prelude.{◌≡◌};
 use smap_logs::add_context;
 use smap_record::SourceMap;
 use smap_trace::{
-    Counts, KnownFunctions, LineOutcome, LinePosition, MatchMode, RenamedFrame, Scripts, is_hidden,
-    line_positions, named_frame, rename_frame,
+    Counts, Kept, KnownFunctions, LineOutcome, LinePosition, MatchMode, RenamedFrame, Scripts,
+    ends_like_frames, is_hidden, line_positions, named_frame, rename_frame,
 };
 use smap_trace_summary::original_text;
 use std::alloc::{AllocError, Global};
@@ -48,7 +48,7 @@ pub(crate) fn decorate(
     alloc: Global,
     lines: &[u8],
     lookup: &Lookup<'_>,
-    known: &mut KnownFunctions,
+    kept: &mut Kept,
     out: &mut Vec<u8>,
 ) -> Result<Counts, AllocError> {
     let mut counts = Counts {
@@ -58,13 +58,37 @@ pub(crate) fn decorate(
     };
     for line in lines.split_inclusive(|b| *b == b'\n') {
         counts.lines = counts.lines.saturating_add(1);
-        match decorate_line(alloc, line, lookup, known, out)? {
+        match decorate_once(alloc, line, lookup, kept, out)? {
             LineOutcome::Kept => {}
             LineOutcome::Translated => counts.translated = counts.translated.saturating_add(1),
             LineOutcome::Dropped => counts.dropped = counts.dropped.saturating_add(1),
         }
     }
     Ok(counts)
+}
+
+/// Translates a line, with names as it was translated before if that is kept.
+fn decorate_once(
+    alloc: Global,
+    line: &[u8],
+    lookup: &Lookup<'_>,
+    kept: &mut Kept,
+    out: &mut Vec<u8>,
+) -> Result<LineOutcome, AllocError> {
+    if !lookup.style.names || !ends_like_frames(line) {
+        return decorate_line(alloc, line, lookup, &mut kept.functions, out);
+    }
+    if let Some((text, outcome)) = kept.lines.get(line) {
+        out.extend_from_slice(text)?;
+        return Ok(outcome);
+    }
+    let before = out.len();
+    let outcome = decorate_line(alloc, line, lookup, &mut kept.functions, out)?;
+    if outcome == LineOutcome::Translated {
+        let text = out.get(before..).unwrap_or(b"");
+        kept.lines.put(alloc, line, text, outcome)?;
+    }
+    Ok(outcome)
 }
 
 /// The frame that a line is, with the name of the script that is meant, if it names none.

@@ -23,7 +23,7 @@ use smap_logs::{Log, Names, has_control, look, names_in};
 use smap_map_files::Wanted;
 use smap_map_finder::{Finder, How};
 use smap_system::{Disk, Host, Stop};
-use smap_trace::KnownFunctions;
+use smap_trace::Kept;
 use smap_trace_summary::{Frames, Given, has_escaped_url, hint_at_start};
 use std::alloc::{AllocError, Global};
 use std::io::{Read, Take, Write};
@@ -68,8 +68,9 @@ pub(crate) struct Run<'a, E, D: Disk> {
     pub(crate) host: &'a Host<'a, E, D>,
     pub(crate) job: &'a Job<'a>,
     pub(crate) finder: Finder<'a, E, D>,
-    /// The functions of sources, where frames get their names.
-    pub(crate) known: KnownFunctions,
+    /// What is kept where frames get names, and how many scripts had maps when lines were.
+    pub(crate) kept: Kept,
+    pub(crate) mapped: usize,
     /// The names of frames that logs have and that aren't counted among the frames yet.
     pub(crate) names: Names,
     pub(crate) given: Given,
@@ -290,7 +291,8 @@ impl<'a, E: Eprint + AllocGlobal, D: Disk> Run<'a, E, D> {
             host,
             job,
             finder,
-            known: KnownFunctions::new(host.alloc()),
+            kept: Kept::new(host.alloc()),
+            mapped: 0,
             names: Names::new(host.alloc()),
             given,
             frames: Frames::none(host.alloc()),

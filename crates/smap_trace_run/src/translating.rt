@@ -125,13 +125,16 @@ impl<E: Eprint + AllocGlobal, D: Disk> Run<'_, E, D> {
         let (host, job) = (self.host, self.job);
         let mut out = Vec::new(host.alloc());
         let scripts = self.finder.scripts();
-        let known = &mut self.known;
+        if scripts.len() != self.mapped {
+            self.kept.lines.clear();
+            self.mapped = scripts.len();
+        }
         let lookup = Lookup {
             scripts,
             style: job.style,
             unnamed: script_alone(&job.wanted),
         };
-        let counts = decorate(host.alloc(), lines, &lookup, known, &mut out)?;
+        let counts = decorate(host.alloc(), lines, &lookup, &mut self.kept, &mut out)?;
         output.write(host, &out)?;
         self.tally.add(counts, !lines.ends_with(b"\n"));
         Ok(())

@@ -315,7 +315,7 @@ fn fail_alone<E: Eprint + AllocGlobal, D: Disk>(
         None => "it names no map",
     };
     match format!(in host.alloc();
-        "{path}: {what}, and none lies beside it: smap-view MAP SCRIPT names both"
+        "{path}: {what}, and none is next to it: smap-view MAP SCRIPT names both"
     ) {
         Ok(text) => host.fail(2, text.as_str()),
         Err(_) => Stop::Memory,
