@@ -8,7 +8,7 @@ use crate::contents::{add_contents, drop_contents, json_text, source_count};
 use crate::members::{Lists, lists_of};
 use crate::patterns::Meant;
 use crate::reading_back::check;
-use crate::renaming::{Prefix, renamed};
+use crate::renaming::renamed;
 use crate::sources_fault::SourcesFault;
 use crate::spans::{Edit, Span, spliced};
 use smap_record::{Base, SourceMap, WrittenSources};
@@ -31,7 +31,7 @@ pub struct MapRead<'a> {
 #[derive(Clone, Copy)]
 pub(crate) enum Change<'a> {
     /// They get other beginnings.
-    Rename(&'a [Prefix<'a>]),
+    Rename(&'a [(&'a str, &'a str)]),
     /// They get these contents, one for each that is listed.
     Add(&'a [Option<String>]),
     /// Those that are meant lose their contents.
@@ -41,7 +41,7 @@ pub(crate) enum Change<'a> {
 /// Adds the edit that gives a source another beginning, if there is one for it.
 fn add_name(
     alloc: Global,
-    prefixes: &[Prefix<'_>],
+    prefixes: &[(&str, &str)],
     source: Option<&str>,
     span: Span,
     edits: &mut Vec<Edit>,
@@ -49,11 +49,10 @@ fn add_name(
     let Some(source) = source else {
         return Ok(());
     };
-    let Some(name) = renamed(alloc, prefixes, source)? else {
-        return Ok(());
-    };
-    if name.as_str() != source {
-        let made = json_text(alloc, name.as_str())?;
+    let name = renamed(alloc, prefixes, source.as_bytes())?;
+    let name = std::str::from_utf8(&name).unwrap_or(source);
+    if name != source {
+        let made = json_text(alloc, name)?;
         edits.push(Edit { span, made })?;
     }
     Ok(())
@@ -63,7 +62,7 @@ fn add_name(
 fn add_names(
     alloc: Global,
     lists: &Lists,
-    prefixes: &[Prefix<'_>],
+    prefixes: &[(&str, &str)],
     written: &WrittenSources,
     first: usize,
     edits: &mut Vec<Edit>,

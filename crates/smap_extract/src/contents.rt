@@ -1,4 +1,6 @@
 //! Contents that are put into the list of a map, or taken out of it.
+ghost use Rattle.std.specs.Prelude.{◌≤◌, length};
+
 use crate::members::{List, Lists};
 use crate::patterns::Meant;
 use crate::spans::{Edit, Span};
@@ -20,7 +22,9 @@ fn content_text(alloc: Global, content: Option<&String>) -> Result<Vec<u8>, Allo
 }
 
 /// How many of these come up to the last one that is there.
-fn size_with_last(contents: &[Option<String>]) -> usize {
+fn size_with_last(contents: &[Option<String>]) -> usize
+    ensures { result ≤ length contents.now }
+{
     let after = contents.iter().rev().take_while(|c| c.is_none()).count();
     contents.len().saturating_sub(after)
 }

@@ -32,6 +32,5 @@ pub use gathering::Extraction;
 pub use path::{SourcePath, source_path};
 pub use patterns::Meant;
 pub use placing::placed;
-pub use renaming::Prefix;
 pub use sources_run::{MapPlace, SourcesTask, change_sources};
 pub use writing::{Written, write_files};

@@ -3,7 +3,7 @@
 use crate::spans::Span;
 use json::{MAX_DEPTH, Reader, Scratch, Token};
 use smap_shape::{MAX_LEVEL, json_start};
-use std::alloc::{AllocError, Global};
+use std::alloc::{AllocError, AllocFailed, Global};
 
 /// Why a list isn't found.
 #[derive(Clone, Copy, PartialEq, Eq)]
@@ -18,6 +18,12 @@ pub(crate) enum PlaceFault {
 
 impl From<AllocError> for PlaceFault {
     fn from(_error: AllocError) -> PlaceFault {
+        PlaceFault::Memory
+    }
+}
+
+impl<T: Drop> From<AllocFailed<T>> for PlaceFault {
+    fn from(_error: AllocFailed<T>) -> PlaceFault {
         PlaceFault::Memory
     }
 }

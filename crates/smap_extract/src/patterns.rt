@@ -21,13 +21,14 @@ fn is_like(pattern: &[u8], text: &[u8]) -> bool {
     let Some(first) = pattern.iter().position(|b| *b == b'*') else {
         return pattern == text;
     };
-    let last = pattern.iter().rev().take_while(|b| **b != b'*').count();
-    let (before, after) = (&pattern[..first], &pattern[pattern.len() - last..]);
+    let (before, stars) = (&pattern[..first], &pattern[first..]);
+    let size = stars.iter().rev().take_while(|b| **b != b'*').count();
+    let (pieces, after) = (&stars[..stars.len() - size], &stars[stars.len() - size..]);
     let Some(rest) = text.strip_prefix(before) else {
         return false;
     };
     match rest.strip_suffix(after) {
-        Some(middle) => has_pieces(&pattern[first..pattern.len() - last], middle),
+        Some(middle) => has_pieces(pieces, middle),
         None => false,
     }
 }

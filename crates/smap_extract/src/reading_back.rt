@@ -1,49 +1,79 @@
 //! Whether a changed map is read as it has to be.
-ghost use Rattle.std.specs.Prelude.{◌≡◌, IfOk, OnOk, map, true};
+ghost use Rattle.std.specs.Prelude.{◌≡◌, ◌<◌, IfOk, OnOk, length, map, option_copied, option_map, slice_get};
+ghost use Rattle.std.specs.Prelude.{true};
 ghost use Rattle.smap_record.specs.Written.{as_written};
 ghost use Rattle.smap_extract.specs.Renaming as spec;
 
 use crate::changing::{Change, MapRead};
-use crate::renaming::{Prefix, renamed};
+use crate::renaming::renamed;
 use crate::sources_fault::SourcesFault;
 use smap_record::{Limits, SourceMap, WrittenSources};
 use std::alloc::{AllocError, Global};
 
-/// Whether a source that has these beginnings is this one.
-fn is_renamed(
-    alloc: Global,
-    prefixes: &[Prefix<'_>],
-    source: Option<&str>,
-    new: Option<&str>,
-) -> Result<bool, AllocError>
+fn are_equal(one: Option<&str>, other: Option<&str>) -> bool
+    ensures { result ≡ true → option_copied one.entry ≡ option_copied other.entry }
 {
-    let (Some(source), Some(new)) = (source, new) else {
-        return Ok(source.is_none() && new.is_none());
-    };
-    match renamed(alloc, prefixes, source)? {
-        Some(name) => Ok(name.as_str() == new),
-        None => Ok(source == new),
+    match (one, other) {
+        (Some(one), Some(other)) => one.as_bytes() == other.as_bytes(),
+        (None, None) => true,
+        _ => false,
     }
 }
 
-/// Whether sources that are written so are others with other beginnings, in their order and with their roots.
-fn are_renamed(
+/// Whether a source with these beginnings is this one.
+fn is_renamed(
     alloc: Global,
-    prefixes: &[Prefix<'_>],
+    prefixes: &[(&str, &str)],
+    source: Option<&str>,
+    new: Option<&str>,
+) -> Result<bool, AllocError>
+    ensures { IfOk result (λ is. is ≡ true → option_copied new.entry
+        ≡ option_map (spec.renamed (spec.prefixes_in prefixes.now)) (option_copied source.entry)) }
+{
+    match (source, new) {
+        (Some(source), Some(new)) => {
+            let name = renamed(alloc, prefixes, source.as_bytes())?;
+            Ok(new.as_bytes() == name.as_slice())
+        }
+        (None, None) => Ok(true),
+        _ => Ok(false),
+    }
+}
+
+/// Whether the sources with this number are so, and have the same root.
+fn is_respelled(
+    alloc: Global,
+    prefixes: &[(&str, &str)],
+    old: &WrittenSources,
+    new: &WrittenSources,
+    i: usize,
+) -> Result<bool, AllocError>
+    requires old { i < length old.now }
+    requires new { i < length new.now }
+    ensures { IfOk result (λ is. is ≡ true → slice_get new.now i
+        ≡ slice_get (map (spec.respelled (spec.prefixes_in prefixes.now)) old.now) i) }
+{
+    if !is_renamed(alloc, prefixes, old.source(i), new.source(i))? {
+        return Ok(false);
+    }
+    Ok(are_equal(old.root(i), new.root(i)))
+}
+
+/// Whether sources that are written so are others with other beginnings, in their order and with their roots.
+fn are_respelled(
+    alloc: Global,
+    prefixes: &[(&str, &str)],
     old: &WrittenSources,
     new: &WrittenSources,
 ) -> Result<bool, AllocError>
     ensures { IfOk result (λ are. are ≡ true
-        → new.now ≡ map (spec.respelled (map spec.prefix_view prefixes.now)) old.now) }
+        → new.now ≡ map (spec.respelled (spec.prefixes_in prefixes.now)) old.now) }
 {
     if old.len() != new.len() {
         return Ok(false);
     }
     for i in 0..old.len() {
-        if !is_renamed(alloc, prefixes, old.source(i), new.source(i))? {
-            return Ok(false);
-        }
-        if old.root(i) != new.root(i) {
+        if !is_respelled(alloc, prefixes, old, new, i)? {
             return Ok(false);
         }
     }
@@ -89,8 +119,8 @@ fn have_contents(change: Change<'_>, read: &MapRead<'_>, new: &SourceMap) -> boo
 }
 
 /// The beginnings that a change gives.
-fn prefixes_in<'a>(change: Change<'a>) -> &'a [Prefix<'a>]
-    ensures { map spec.prefix_view result.now ≡ spec.prefixes_of change }
+fn prefixes_in<'a>(change: Change<'a>) -> &'a [(&'a str, &'a str)]
+    ensures { spec.prefixes_in result.now ≡ spec.prefixes_of change }
 {
     match change {
         Change::Rename(prefixes) => prefixes,
@@ -113,7 +143,7 @@ pub(crate) fn check(
     let Some((new, written)) = found else {
         return Err(SourcesFault::LongUrls);
     };
-    let are = are_renamed(alloc, prefixes_in(change), &read.written, &written)?;
+    let are = are_respelled(alloc, prefixes_in(change), &read.written, &written)?;
     if are && have_contents(change, read, &new) {
         Ok(())
     } else {

@@ -1,33 +1,34 @@
 //! Other beginnings for sources.
-ghost use Rattle.std.specs.Prelude.{◌≡◌, IfOk, map, option_map, string_bytes, unwrap_or};
+ghost use Rattle.std.specs.Prelude.{◌≡◌, ◌++◌, IfOk};
 ghost use Rattle.smap_extract.specs.Renaming as spec;
 
 use smap_record::WrittenSources;
 use std::alloc::{AllocError, Global};
 
-/// A beginning of sources, and what comes in its place.
-#[derive(Clone, Copy)]
-pub struct Prefix<'a> {
-    pub from: &'a str,
-    pub to: &'a str,
+fn joined(alloc: Global, front: &[u8], rest: &[u8]) -> Result<Vec<u8>, AllocError>
+    ensures { IfOk result (λ text. text.items ≡ front.now ++ rest.now) }
+{
+    let mut text = Vec::from_slice(alloc, front)?;
+    text.extend_from_slice(rest)?;
+    Ok(text)
 }
 
-/// A source with another beginning, by the first of these that it begins with; none if there is none.
+/// A source with TO for FROM at its beginning, for the first of these that it begins with; as it is if it
+/// begins with none.
 pub(crate) fn renamed(
     alloc: Global,
-    prefixes: &[Prefix<'_>],
-    source: &str,
-) -> Result<Option<String>, AllocError>
-    ensures { IfOk result (λ o. unwrap_or (option_map string_bytes o) source.now
-        ≡ spec.renamed (map spec.prefix_view prefixes.now) source.now) }
+    prefixes: &[(&str, &str)],
+    source: &[u8],
+) -> Result<Vec<u8>, AllocError>
+    ensures { IfOk result (λ text. text.items ≡ spec.renamed (spec.prefixes_in prefixes.now) source.now) }
 {
-    for i in 0..prefixes.len() {
-        let Prefix { from, to } = prefixes[i];
-        if let Some(rest) = source.strip_prefix(from) {
-            return Ok(Some(format!(in alloc; "{to}{rest}")?));
+    for prefix in prefixes {
+        let from = prefix.0.as_bytes();
+        if source.starts_with(from) {
+            return joined(alloc, prefix.1.as_bytes(), &source[from.len()..]);
         }
     }
-    Ok(None)
+    Vec::from_slice(alloc, source)
 }
 
 /// How many bytes two texts have in common at their beginnings.

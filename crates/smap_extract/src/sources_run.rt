@@ -2,20 +2,21 @@
 use crate::changing::{Change, MapRead, changed};
 use crate::finding::find_contents;
 use crate::patterns::Meant;
-use crate::renaming::{Prefix, common_folder};
+use crate::renaming::common_folder;
 use crate::sources_fault::SourcesFault;
 use smap_edits::replace_file;
 use smap_system::{Disk, Host, Stamp, Stop, Watched, printable};
 use std::io::Write;
 
 /// What is done with the sources of each map.
+#[derive(Drop)]
 pub enum SourcesTask<'a> {
     /// Those that are meant and have no content get that of their file.
     Add(Meant<'a>),
     /// Those that are meant lose their contents.
     Drop(Meant<'a>),
     /// They get other beginnings, each by the first that it begins with.
-    Rename(Vec<Prefix<'a>>),
+    Rename(Vec<(&'a str, &'a str)>),
     /// They lose the folder that they are all in.
     Strip,
 }
@@ -70,7 +71,7 @@ fn text_of<E: Eprint + AllocGlobal, D: Disk>(
         SourcesTask::Rename(prefixes) => changed(alloc, read, Change::Rename(prefixes)),
         SourcesTask::Strip => {
             let from = common_folder(&read.written);
-            changed(alloc, read, Change::Rename(&[Prefix { from, to: "" }]))
+            changed(alloc, read, Change::Rename(&[(from, "")]))
         }
     }
 }

@@ -6,7 +6,7 @@ use crate::targets::{Target, targets_of};
 use crate::{Verdict, unread};
 use smap_command_line::MapsCommand;
 use smap_command_line::maps::MapsWords;
-use smap_extract::{MapPlace, MapRead, Meant, Prefix, SourcesTask, change_sources};
+use smap_extract::{MapPlace, MapRead, Meant, SourcesTask, change_sources};
 use smap_map_files::MapText;
 use smap_record::{Limits, SourceMap};
 use smap_system::{Disk, Host, Stop, Watched};
@@ -19,8 +19,7 @@ fn sources_task<'a>(alloc: Global, asked: &MapsWords<'a>) -> Result<SourcesTask<
     if asked.command == MapsCommand::Rename {
         let mut prefixes = Vec::new(alloc);
         for word in &options.texts(alloc, "source-prefix")? {
-            let (from, to) = word.split_once('=').unwrap_or((*word, ""));
-            prefixes.push(Prefix { from, to })?;
+            prefixes.push(word.split_once('=').unwrap_or((*word, "")))?;
         }
         return Ok(if options.has("strip-common") {
             SourcesTask::Strip
