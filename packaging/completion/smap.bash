@@ -28,6 +28,8 @@ smap-maps extract: --output --url-bytes --version --help
 smap-maps comment: --write --set --remove --url-bytes --version --help
 smap-maps inline: --write --url-bytes --version --help
 smap-maps outline: --write --url-bytes --version --help
+smap-maps contents: --write --drop --add --only --except --url-bytes --version --help
+smap-maps rename: --write --source-prefix --strip-common --url-bytes --version --help
 smap-view: --base --url-bytes --compare --sizes --budget --version --help
 '
 
@@ -41,6 +43,9 @@ smap-trace --url-bytes:
 smap-trace --source-prefix:
 smap-trace -o: FILE
 smap-maps --base:
+smap-maps --only:
+smap-maps --except:
+smap-maps --source-prefix:
 smap-maps --format: text gnu github sarif junit json
 smap-maps --rule:
 smap-maps --min-mapped:

@@ -8,9 +8,11 @@ use Rattle.clap.specs.Words.{Row, first_of}
 use Rattle.smap_command_line.specs.Lookups.{is_set}
 use Rattle.smap_command_line.specs.Rows.{OptionRow, is_command_of, is_flag}
 use Rattle.smap_command_line.specs.declared.maps.clashes.Clash.{Clash}
-use Rattle.smap_command_line.specs.declared.maps.clashes.Clash.TheVariants.{DropAlone, JsonDiff, NoComment}
-use Rattle.smap_command_line.specs.declared.maps.clashes.Clash.TheVariants.{NoOutput, RelativeAbsolute}
-use Rattle.smap_command_line.specs.declared.maps.clashes.Clash.TheVariants.{SetRemove, WriteDiff}
+use Rattle.smap_command_line.specs.declared.maps.clashes.Clash.TheVariants.{AddDrop, DropAlone, JsonDiff}
+use Rattle.smap_command_line.specs.declared.maps.clashes.Clash.TheVariants.{NoComment, NoContents, NoOutput}
+use Rattle.smap_command_line.specs.declared.maps.clashes.Clash.TheVariants.{NoRename, PrefixStrip}
+use Rattle.smap_command_line.specs.declared.maps.clashes.Clash.TheVariants.{RelativeAbsolute, SetRemove}
+use Rattle.smap_command_line.specs.declared.maps.clashes.Clash.TheVariants.{WriteDiff}
 use Rattle.smap_command_line.specs.declared.rows.MapsCommand.{MapsCommand}
 use Rattle.smap_command_line.specs.declared.rows.MapsCommand.TheVariants as command
 
@@ -28,24 +30,32 @@ foreign_option rows k options = find (is_foreign rows k) options
 abbrev pub has_value : List ℕ → List Row → Bool
 has_value name rows = is_some (first_of name rows)
 
--- flags that exclude each other, or `--drop` without `--write`
+-- flags that exclude each other
 abbrev pub excluded_flags : List Row → Option Clash
 excluded_flags rows =
     if is_set (codes "diff") rows && is_set (codes "write") rows then Some WriteDiff else
     (if is_set (codes "relative") rows && is_set (codes "absolute") rows then Some RelativeAbsolute else
-    (if is_set (codes "json") rows && is_set (codes "diff") rows then Some JsonDiff else
-    (if is_set (codes "drop") rows && not (is_set (codes "write") rows) then Some DropAlone else None)))
+    (if is_set (codes "json") rows && is_set (codes "diff") rows then Some JsonDiff else None))
 
 -- ways to change scripts and maps that exclude each other
 abbrev pub excluded_ways : List Row → Option Clash
 excluded_ways rows =
-    if has_value (codes "set") rows && is_set (codes "remove") rows then Some SetRemove else None
+    if has_value (codes "set") rows && is_set (codes "remove") rows then Some SetRemove else
+    (if is_set (codes "add") rows && is_set (codes "drop") rows then Some AddDrop else
+    (if has_value (codes "source-prefix") rows && is_set (codes "strip-common") rows then Some PrefixStrip
+    else None))
 
 abbrev pub unless : Bool → Clash → Option Clash
 unless test why = if test then None else Some why
 
 -- what a command can't do without, or can't have
 abbrev pub lacking : List Row → MapsCommand → Option Clash
+lacking rows command.Tidy = unless (not (is_set (codes "drop") rows) || is_set (codes "write") rows) DropAlone
+lacking rows command.Flatten =
+    unless (not (is_set (codes "drop") rows) || is_set (codes "write") rows) DropAlone
+lacking rows command.Contents = unless (is_set (codes "add") rows || is_set (codes "drop") rows) NoContents
+lacking rows command.Rename =
+    unless (has_value (codes "source-prefix") rows || is_set (codes "strip-common") rows) NoRename
 lacking rows command.Comment =
     unless (has_value (codes "set") rows || is_set (codes "remove") rows) NoComment
 lacking rows command.Extract = unless (has_value (codes "output") rows) NoOutput

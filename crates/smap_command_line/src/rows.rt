@@ -17,6 +17,8 @@ pub enum MapsCommand {
     Comment,
     Inline,
     Outline,
+    Contents,
+    Rename,
 }
 
 /// Commands of `smap-maps`.
@@ -31,6 +33,8 @@ pub struct Commands {
     pub comment: bool,
     pub inline: bool,
     pub outline: bool,
+    pub contents: bool,
+    pub rename: bool,
 }
 
 /// What the value of an option has to be.
@@ -110,6 +114,8 @@ pub(crate) const NO_COMMANDS: Commands = Commands {
     comment: false,
     inline: false,
     outline: false,
+    contents: false,
+    rename: false,
 };
 
 /// All commands.
@@ -123,6 +129,8 @@ pub(crate) const ALL_COMMANDS: Commands = Commands {
     comment: true,
     inline: true,
     outline: true,
+    contents: true,
+    rename: true,
 };
 
 /// What most flags have in common.
@@ -172,6 +180,8 @@ impl Commands {
             MapsCommand::Comment => self.comment,
             MapsCommand::Inline => self.inline,
             MapsCommand::Outline => self.outline,
+            MapsCommand::Contents => self.contents,
+            MapsCommand::Rename => self.rename,
         }
     }
 }

@@ -1,4 +1,6 @@
 pub mod Laws
 pub mod Paths
 pub mod Places
+pub mod Renaming
 pub mod Segments
+pub mod Spans

@@ -9,15 +9,28 @@
 //! the program's alone: who owns the folder can exchange a folder in it between two calls.
 #![tactic(auto)]
 
+mod changing;
+mod contents;
 mod files;
+mod finding;
 mod gathering;
 pub mod laws;
+mod members;
 mod path;
+mod patterns;
 mod placing;
+mod reading_back;
+mod renaming;
 mod segments;
+mod sources_fault;
+mod sources_run;
+mod spans;
 mod writing;
 
+pub use changing::MapRead;
 pub use gathering::Extraction;
 pub use path::{SourcePath, source_path};
+pub use patterns::Meant;
 pub use placing::placed;
+pub use sources_run::{MapPlace, SourcesTask, change_sources};
 pub use writing::{Written, write_files};

@@ -32,8 +32,8 @@ fn no_memory() -> Verdict {
     Verdict::Failed(Failure::Memory)
 }
 
-/// Says why nothing is taken from a map, and answers the status of that.
-fn refuse<E: Eprint + AllocGlobal, D: Disk>(
+/// Says why nothing is done with a map, and answers the status of that.
+pub(crate) fn refuse<E: Eprint + AllocGlobal, D: Disk>(
     host: &Host<'_, E, D>,
     file: &str,
     verdict: Verdict,

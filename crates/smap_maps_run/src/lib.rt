@@ -26,6 +26,7 @@ mod remarks;
 mod repairing;
 mod replacing;
 mod reporting;
+mod sourcing;
 mod targets;
 
 pub use json_lines::json_line;

@@ -165,7 +165,7 @@ impl<D: Disk> Case<'_, D> {
     }
 
     /// Its file, or what becomes of a map that can't be looked at.
-    fn file(&self) -> Result<MapFile, Verdict>
+    pub(crate) fn file(&self) -> Result<MapFile, Verdict>
         ensures { MatchResult result (IsFileOf (D.held self.now.disk.now)
             (string_bytes self.now.target.now.file) self.now.target.now.url.items)
             (IsUnlooked self.now.target.now.url.items) }

@@ -2,6 +2,7 @@
 use crate::changing::{comment_task, scripts_asked};
 use crate::extracting::extract;
 use crate::linting::lint_asked;
+use crate::sourcing::source;
 use smap_command_line::MapsCommand;
 use smap_command_line::maps::MapsWords;
 use smap_lint_run::lint;
@@ -62,6 +63,7 @@ pub(crate) fn do_other<E: Eprint + AllocGlobal, D: Disk, W: Write>(
         MapsCommand::Comment => comment(host, asked, writer),
         MapsCommand::Inline => inline(host, asked, writer),
         MapsCommand::Outline => outline(host, asked, writer),
+        MapsCommand::Contents | MapsCommand::Rename => source(host, asked, writer),
         _ => lint_build(host, asked, writer),
     }
 }

@@ -25,6 +25,14 @@ pub enum Clash {
     NoOutput,
     /// `comment` has neither `--set` nor `--remove`.
     NoComment,
+    /// `--add` and `--drop` exclude each other.
+    AddDrop,
+    /// `contents` has neither `--add` nor `--drop`.
+    NoContents,
+    /// `--source-prefix` and `--strip-common` exclude each other.
+    PrefixStrip,
+    /// `rename` has neither `--source-prefix` nor `--strip-common`.
+    NoRename,
 }
 
 /// Whether an option is given.
@@ -79,8 +87,6 @@ fn excluded_flags(options: &Options<'_>) -> Option<Clash>
         Some(Clash::RelativeAbsolute)
     } else if options.has("json") && options.has("diff") {
         Some(Clash::JsonDiff)
-    } else if options.has("drop") && !options.has("write") {
-        Some(Clash::DropAlone)
     } else {
         None
     }
@@ -92,6 +98,10 @@ fn excluded_ways(options: &Options<'_>) -> Option<Clash>
 {
     if has_value(options, "set") && options.has("remove") {
         Some(Clash::SetRemove)
+    } else if options.has("add") && options.has("drop") {
+        Some(Clash::AddDrop)
+    } else if has_value(options, "source-prefix") && options.has("strip-common") {
+        Some(Clash::PrefixStrip)
     } else {
         None
     }
@@ -109,6 +119,18 @@ fn lacking(options: &Options<'_>, command: MapsCommand) -> Option<Clash>
     ensures { result ≡ spec.lacking (rows_in options.now) command }
 {
     match command {
+        MapsCommand::Tidy | MapsCommand::Flatten => {
+            let is_fine = !options.has("drop") || options.has("write");
+            unless(is_fine, Clash::DropAlone)
+        }
+        MapsCommand::Contents => {
+            let is_said = options.has("add") || options.has("drop");
+            unless(is_said, Clash::NoContents)
+        }
+        MapsCommand::Rename => {
+            let is_said = has_value(options, "source-prefix") || options.has("strip-common");
+            unless(is_said, Clash::NoRename)
+        }
         MapsCommand::Extract => unless(has_value(options, "output"), Clash::NoOutput),
         MapsCommand::Comment => {
             let is_said = has_value(options, "set") || options.has("remove");

@@ -10,6 +10,8 @@ Usage: smap-maps check [--base URL] [--json] PATH...
        smap-maps extract -o DIR PATH...
        smap-maps comment (--set URL | --remove) [--write] SCRIPT...
        smap-maps inline|outline [--write] SCRIPT...
+       smap-maps contents (--add | --drop) [--only PATTERN]... [--except PATTERN]... [--write] PATH...
+       smap-maps rename (--source-prefix FROM=TO... | --strip-common) [--write] PATH...
 
 Works on source maps: files, and each *.map in folders and below them; some commands on scripts.
 
@@ -22,14 +24,24 @@ Works on source maps: files, and each *.map in folders and below them; some comm
   comment     Set or remove the comment by which a script names its map
   inline      Put the map of a script into its comment
   outline     Put the map within a script into a file next to it
+  contents    Put the contents of sources into maps, or take them out
+  rename      Give the sources of maps other beginnings
 
   --base URL      A map's URL is URL/ and its path below the folder, instead of the file: URL of the file
                   (check, tidy, flatten, repair)
   --absolute      Write source URLs as they are (tidy)
   --relative      Write source URLs relative to the map's where that round-trips, which is the default (tidy)
   --write         Rewrite the files that would change, unless a map would lose a member (tidy, flatten,
-                  repair, comment, inline, outline)
-  --drop          Rewrite those too that lose a member, such as debugId, naming each (tidy, flatten)
+                  repair, comment, inline, outline, contents, rename)
+  --drop          Rewrite those too that lose a member, such as debugId, naming each; take contents out (tidy,
+                  flatten, contents)
+  --add           Put the files of sources into sourcesContent (contents)
+  --only PATTERN  Leave all other sources as they are (contents)
+  --except PATTERN
+                  Leave these sources as they are (contents)
+  --source-prefix FROM=TO
+                  Write TO in place of FROM, with which sources begin (rename)
+  --strip-common  Leave out the folder that all sources of a map are in (rename)
   --diff          Show which members would change (tidy, flatten)
   --json          Write a line of JSON for each map (check, tidy, flatten)
   --format FORMAT

@@ -17,6 +17,8 @@ fn command_text(command: MapsCommand) -> &'static str {
         MapsCommand::Comment => "comment",
         MapsCommand::Inline => "inline",
         MapsCommand::Outline => "outline",
+        MapsCommand::Contents => "contents",
+        MapsCommand::Rename => "rename",
     }
 }
 
@@ -29,6 +31,10 @@ fn clash_text(clash: Clash) -> &'static str {
         Clash::SetRemove => "--set and --remove at once",
         Clash::NoOutput => "extract needs --output",
         Clash::NoComment => "comment needs --set or --remove",
+        Clash::AddDrop => "--add and --drop at once",
+        Clash::NoContents => "contents needs --add or --drop",
+        Clash::PrefixStrip => "--source-prefix and --strip-common at once",
+        Clash::NoRename => "rename needs --source-prefix or --strip-common",
     }
 }
 

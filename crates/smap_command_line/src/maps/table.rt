@@ -4,7 +4,7 @@ use crate::rows::{
 };
 
 /// The options, in the order in which the help lists them and they are looked at.
-pub const OPTIONS: [OptionRow; 14] = [
+pub const OPTIONS: [OptionRow; 19] = [
     OptionOf {
         name: "base",
         value: Value::Text,
@@ -50,6 +50,8 @@ pub const OPTIONS: [OptionRow; 14] = [
             comment: true,
             inline: true,
             outline: true,
+            contents: true,
+            rename: true,
             ..NO_COMMANDS
         },
         help: "Rewrite the files that would change, unless a map would lose a member",
@@ -67,9 +69,70 @@ pub const OPTIONS: [OptionRow; 14] = [
         commands: Commands {
             tidy: true,
             flatten: true,
+            contents: true,
             ..NO_COMMANDS
         },
-        help: "Rewrite those too that lose a member, such as debugId, naming each",
+        help: "Rewrite those too that lose a member, such as debugId, naming each; take contents out",
+        ..FLAG
+    },
+    OptionOf {
+        name: "add",
+        commands: Commands {
+            contents: true,
+            ..NO_COMMANDS
+        },
+        help: "Put the files of sources into sourcesContent",
+        details: "They are below the map's folder, or where a source is relative to the map, in UTF-8, \
+                  and reached over no link. A source that has a content keeps it.",
+        ..FLAG
+    },
+    OptionOf {
+        name: "only",
+        value: Value::Text,
+        value_name: "PATTERN",
+        repeats: true,
+        commands: Commands {
+            contents: true,
+            ..NO_COMMANDS
+        },
+        help: "Leave all other sources as they are",
+        details: "A pattern is a source as the map writes it, where * stands for any characters. May be \
+                  given several times.",
+        ..FLAG
+    },
+    OptionOf {
+        name: "except",
+        value: Value::Text,
+        value_name: "PATTERN",
+        repeats: true,
+        commands: Commands {
+            contents: true,
+            ..NO_COMMANDS
+        },
+        help: "Leave these sources as they are",
+        ..FLAG
+    },
+    OptionOf {
+        name: "source-prefix",
+        value: Value::Pair,
+        value_name: "FROM=TO",
+        expected: "FROM=TO",
+        repeats: true,
+        commands: Commands {
+            rename: true,
+            ..NO_COMMANDS
+        },
+        help: "Write TO in place of FROM, with which sources begin",
+        details: "Of several the first that fits counts.",
+        ..FLAG
+    },
+    OptionOf {
+        name: "strip-common",
+        commands: Commands {
+            rename: true,
+            ..NO_COMMANDS
+        },
+        help: "Leave out the folder that all sources of a map are in",
         ..FLAG
     },
     OptionOf {

@@ -138,6 +138,8 @@ fn command_in(name: &str) -> Option<MapsCommand>
         "comment" => Some(MapsCommand::Comment),
         "inline" => Some(MapsCommand::Inline),
         "outline" => Some(MapsCommand::Outline),
+        "contents" => Some(MapsCommand::Contents),
+        "rename" => Some(MapsCommand::Rename),
         _ => None,
     }
 }
