@@ -28,6 +28,7 @@ smap-maps extract: --output --url-bytes --version --help
 smap-maps comment: --write --set --remove --url-bytes --version --help
 smap-maps inline: --write --url-bytes --version --help
 smap-maps outline: --write --url-bytes --version --help
+smap-maps debug-id: --write --url-bytes --version --help
 smap-view: --base --url-bytes --compare --sizes --budget --version --help
 '
 

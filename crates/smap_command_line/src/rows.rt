@@ -17,6 +17,7 @@ pub enum MapsCommand {
     Comment,
     Inline,
     Outline,
+    DebugId,
 }
 
 /// Commands of `smap-maps`.
@@ -31,6 +32,7 @@ pub struct Commands {
     pub comment: bool,
     pub inline: bool,
     pub outline: bool,
+    pub debug_id: bool,
 }
 
 /// What the value of an option has to be.
@@ -110,6 +112,7 @@ pub(crate) const NO_COMMANDS: Commands = Commands {
     comment: false,
     inline: false,
     outline: false,
+    debug_id: false,
 };
 
 /// All commands.
@@ -123,6 +126,7 @@ pub(crate) const ALL_COMMANDS: Commands = Commands {
     comment: true,
     inline: true,
     outline: true,
+    debug_id: true,
 };
 
 /// What most flags have in common.
@@ -172,6 +176,7 @@ impl Commands {
             MapsCommand::Comment => self.comment,
             MapsCommand::Inline => self.inline,
             MapsCommand::Outline => self.outline,
+            MapsCommand::DebugId => self.debug_id,
         }
     }
 }

@@ -9,7 +9,7 @@ Usage: smap-maps check [--base URL] [--json] PATH...
        smap-maps repair [--base URL] [--write] PATH...
        smap-maps extract -o DIR PATH...
        smap-maps comment (--set URL | --remove) [--write] SCRIPT...
-       smap-maps inline|outline [--write] SCRIPT...
+       smap-maps inline|outline|debug-id [--write] SCRIPT...
 
 Works on source maps: files, and each *.map in folders and below them; some commands on scripts.
 
@@ -22,13 +22,14 @@ Works on source maps: files, and each *.map in folders and below them; some comm
   comment     Set or remove the comment by which a script names its map
   inline      Put the map of a script into its comment
   outline     Put the map within a script into a file next to it
+  debug-id    Give each script and its map one debug id, by which crash reports find the map
 
   --base URL      A map's URL is URL/ and its path below the folder, instead of the file: URL of the file
                   (check, tidy, flatten, repair)
   --absolute      Write source URLs as they are (tidy)
   --relative      Write source URLs relative to the map's where that round-trips, which is the default (tidy)
   --write         Rewrite the files that would change, unless a map would lose a member (tidy, flatten,
-                  repair, comment, inline, outline)
+                  repair, comment, inline, outline, debug-id)
   --drop          Rewrite those too that lose a member, such as debugId, naming each (tidy, flatten)
   --diff          Show which members would change (tidy, flatten)
   --json          Write a line of JSON for each map (check, tidy, flatten)

@@ -17,6 +17,7 @@ fn command_text(command: MapsCommand) -> &'static str {
         MapsCommand::Comment => "comment",
         MapsCommand::Inline => "inline",
         MapsCommand::Outline => "outline",
+        MapsCommand::DebugId => "debug-id",
     }
 }
 

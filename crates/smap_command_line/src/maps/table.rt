@@ -50,6 +50,7 @@ pub const OPTIONS: [OptionRow; 14] = [
             comment: true,
             inline: true,
             outline: true,
+            debug_id: true,
             ..NO_COMMANDS
         },
         help: "Rewrite the files that would change, unless a map would lose a member",
