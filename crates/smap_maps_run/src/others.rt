@@ -21,10 +21,10 @@ fn lint_build<E: Eprint + AllocGlobal, D: Disk, W: Write>(
 }
 
 /// Does this with each script.
-fn change_scripts<E: Eprint + AllocGlobal, D: Disk, W: Write>(
+fn change_scripts<'a, E: Eprint + AllocGlobal, D: Disk, W: Write>(
     host: &Host<'_, E, D>,
-    asked: &MapsWords<'_>,
-    task: ScriptTask<'_>,
+    asked: &MapsWords<'a>,
+    task: ScriptTask<'a>,
     writer: &mut Watched<W>,
 ) -> Result<u8, Stop> {
     let asked = scripts_asked(host.alloc(), asked, task)?;
