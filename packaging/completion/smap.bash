@@ -30,6 +30,7 @@ smap-maps inline: --write --url-bytes --version --help
 smap-maps outline: --write --url-bytes --version --help
 smap-maps contents: --write --drop --add --only --except --url-bytes --version --help
 smap-maps rename: --write --source-prefix --strip-common --url-bytes --version --help
+smap-maps debug-id: --write --url-bytes --version --help
 smap-view: --base --url-bytes --compare --sizes --budget --version --help
 '
 

@@ -16,6 +16,7 @@ import sys
 from typing import Any, Callable, Dict, Iterator, List, NamedTuple, Optional, Sequence, Set, Tuple
 
 from . import __version__
+from .frames import SHAPES
 from .noted import Recent, Worth
 from .store import Store
 
@@ -180,6 +181,19 @@ class Part(NamedTuple):
 Make = Callable[[List[str]], Optional[List[Part]]]
 
 
+def code_files(event: Dict[str, Any]) -> Dict[str, str]:
+    """The debug ids that an event of Sentry has for its scripts."""
+    meta = event.get("debug_meta")
+    images = meta.get("images") if isinstance(meta, dict) else None
+    found: Dict[str, str] = {}
+    for image in images if isinstance(images, list) else ():
+        if isinstance(image, dict) and image.get("type") == "sourcemap":
+            file, debug_id = image.get("code_file"), image.get("debug_id")
+            if isinstance(file, str) and isinstance(debug_id, str):
+                found[file] = debug_id
+    return found
+
+
 class Stacks:
     """Translates the values of members."""
 
@@ -194,7 +208,17 @@ class Stacks:
         # whether to look for them there in this stack, and how many that were known are translated
         self._worth = Worth()
         self._is_looking, self._again = True, 0
+        # the scripts that are meant by those of this event, where it has debug ids of maps
+        self._meant: Dict[str, str] = {}
         self.translated = 0
+
+    def begin(self, event: Dict[str, Any]) -> None:
+        """Looks for the maps that an event has debug ids for."""
+        self._meant = {}
+        for file, debug_id in code_files(event).items():
+            script = self._store.by_debug_id(debug_id)
+            if script is not None:
+                self._meant[file] = script
 
     def told(self, name: str, text: str) -> Optional[str]:
         """What to write for a value; None where it stays. One that may be found in a map later isn't kept."""
@@ -202,13 +226,16 @@ class Stacks:
         def size_of(told: Told) -> int:
             return MOST_KNOWN + 1 if told.without else BESIDE + 4 * len(text) + len(told.text or "")
 
-        told = self._known.find((name, text), lambda: self._translated(name, text), size_of)
+        if self._meant:  # a frame of another event may mean another script
+            told = self._translated(name, text)
+        else:
+            told = self._known.find((name, text), lambda: self._translated(name, text), size_of)
         self.translated += told.translated
         return told.text
 
     def _translated(self, name: str, text: str) -> Told:
         before, self._again = self._store.counts, 0
-        self._is_looking = self._worth.is_given()
+        self._is_looking = not self._meant and self._worth.is_given()
         told = self._by_frames(name, text) if self._is_looking else self._as_a_whole(name, text)
         after = self._store.counts
         without = after.missing + after.broken - before.missing - before.broken
@@ -304,7 +331,15 @@ class Stacks:
 
     def _frames(self, frames: List[Any], shape: str) -> List[Any]:
         context, names = self._context[shape], self._names
-        return self._store.frames(frames, context, ignore_query=True, shape=shape, names=names)
+        asked = list(map(self._named, frames)) if shape == "sentry" and self._meant else frames
+        told = self._store.frames(asked, context, ignore_query=True, shape=shape, names=names)
+        return [one if new is named else new for one, named, new in zip(frames, asked, told)]
+
+    def _named(self, frame: Any) -> Any:
+        """A frame by the name of the script that is meant."""
+        place = SHAPES["sentry"].place_of(frame)
+        script = None if place is None else self._meant.get(place[0])
+        return frame if script is None else {**frame, "abs_path": script}
 
     def _sentry(self, stack: Dict[str, Any]) -> Dict[str, Any]:
         frames = stack.get("frames")
@@ -491,6 +526,7 @@ class Events:
             self._header = line
             return b""
         event = Event(text)
+        self._stacks.begin(found)
         kept = event.kept()
         told: List[str] = []
         done = skipped = 0

@@ -3,6 +3,7 @@
 from __future__ import annotations
 
 import errno
+import json
 import os
 import re
 from bisect import bisect_right
@@ -84,6 +85,7 @@ class Folders:
         self._folders: List[Folder] = []
         self._forms: Optional[Tuple[Dict[bytes, str], Dict[bytes, Optional[str]]]] = None
         self._listed: Optional[List[Tuple[bytes, Beginnings]]] = None
+        self._ids: Optional[Dict[str, str]] = None
         for key, place in places.items():
             self._add(key, os.fspath(place))
 
@@ -251,9 +253,38 @@ class Folders:
             for name in _found_behind(key, names, text):
                 yield (key + name).decode()
 
+    def by_debug_id(self, debug_id: str) -> Optional[str]:
+        """The script whose map has this debug id, the first of several; None where there is none.
+
+        All maps are read for it once; `forget` has them read again.
+        """
+        if self._ids is None:
+            ids: Dict[str, str] = {}
+            for script in self._scripts():
+                found = self._debug_id(script)
+                if found is not None:
+                    ids.setdefault(found.lower(), script)
+            self._ids = ids
+        return self._ids.get(debug_id.lower())
+
+    def _scripts(self) -> Iterator[str]:
+        """All scripts that may have a map."""
+        yield from self._files
+        for folder in self._folders:
+            for name in _names(folder, None):
+                yield folder.key + name.decode()
+
+    def _debug_id(self, script: str) -> Optional[str]:
+        """The debug id of the map of a script, if there is one."""
+        try:
+            found = self(script)
+        except (Error, OSError):
+            return None
+        return None if found is None else debug_id_of(found.data)
+
     def forget(self) -> None:
-        """Has the folders listed again when they are needed next."""
-        self._listed = None
+        """Has the folders listed again when they are needed next, and the debug ids of maps read."""
+        self._listed = self._ids = None
 
     def _places(self) -> Dict[str, str]:
         return {**self._files, **{folder.key: folder.place for folder in self._folders}}
@@ -296,10 +327,16 @@ def _by_folder(scripts: Iterable[str]) -> Dict[bytes, List[bytes]]:
     return names
 
 
-def _names(folder: Folder) -> Iterator[bytes]:
+def _fail(error: OSError) -> None:
+    raise error
+
+
+def _names(
+    folder: Folder, onerror: Optional[Callable[[OSError], None]] = _fail
+) -> Iterator[bytes]:
     """The rests of the URLs of all scripts in a folder that may have a map. A URL is UTF-8 without spaces."""
     key = folder.key.encode()
-    for parent, _, files in os.walk(folder.place, onerror=_fail):
+    for parent, _, files in os.walk(folder.place, onerror=onerror):
         below = os.path.relpath(parent, folder.place)
         for name in filter(None, map(_script_of, files)):
             path = os.path.normpath(os.path.join(below, name))
@@ -315,10 +352,6 @@ def _script_of(file: str) -> str:
     return file if may_name_map(file) else ""
 
 
-def _fail(error: OSError) -> None:
-    raise error
-
-
 def is_utf8(text: bytes) -> bool:
     """Whether bytes are UTF-8."""
     try:
@@ -326,6 +359,18 @@ def is_utf8(text: bytes) -> bool:
     except UnicodeDecodeError:
         return False
     return True
+
+
+def debug_id_of(data: bytes) -> Optional[str]:
+    """The debug id of a map: its member `debugId`, or `debug_id` where that is absent, if it is a string."""
+    if b"debugId" not in data and b"debug_id" not in data:
+        return None
+    try:
+        tree = json.loads(str(data.partition(b"\n")[2] if data.startswith(b")]}'") else data, "utf-8"))
+    except (ValueError, RecursionError):
+        return None
+    found = tree.get("debugId", tree.get("debug_id")) if isinstance(tree, dict) else None
+    return found if isinstance(found, str) else None
 
 
 class Beginnings:

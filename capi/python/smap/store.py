@@ -190,6 +190,16 @@ class Store:
     def __reduce__(self) -> Tuple[type, Tuple[Finder, int, int, int]]:
         return type(self), (self._finder, self.cache_bytes, self.map_bytes, self.url_bytes)
 
+    def by_debug_id(self, debug_id: str) -> Optional[str]:
+        """The script whose map has this debug id, as other calls take it; None where there is none.
+
+        A finder needs a method `by_debug_id` for it, as `Folders` has it, which reads all maps once.
+        """
+        if not hasattr(self._finder, "by_debug_id"):
+            raise ValueError("a finder needs a method by_debug_id")
+        script: Optional[str] = getattr(self._finder, "by_debug_id")(debug_id)
+        return script
+
     # ---- logs
 
     def translate(

@@ -19,6 +19,7 @@ pub enum MapsCommand {
     Outline,
     Contents,
     Rename,
+    DebugId,
 }
 
 /// Commands of `smap-maps`.
@@ -35,6 +36,7 @@ pub struct Commands {
     pub outline: bool,
     pub contents: bool,
     pub rename: bool,
+    pub debug_id: bool,
 }
 
 /// What the value of an option has to be.
@@ -116,6 +118,7 @@ pub(crate) const NO_COMMANDS: Commands = Commands {
     outline: false,
     contents: false,
     rename: false,
+    debug_id: false,
 };
 
 /// All commands.
@@ -131,6 +134,7 @@ pub(crate) const ALL_COMMANDS: Commands = Commands {
     outline: true,
     contents: true,
     rename: true,
+    debug_id: true,
 };
 
 /// What most flags have in common.
@@ -182,6 +186,7 @@ impl Commands {
             MapsCommand::Outline => self.outline,
             MapsCommand::Contents => self.contents,
             MapsCommand::Rename => self.rename,
+            MapsCommand::DebugId => self.debug_id,
         }
     }
 }

@@ -1,6 +1,7 @@
 //! What becomes of a script's text.
 use crate::comments::{remove_comment, set_comment};
 use crate::data::data_url;
+use crate::identifying::{Identified, identity_of};
 use crate::outlining::{Outlined, outline_of};
 use crate::program::ScriptTask;
 use crate::reading::map_bytes;
@@ -21,6 +22,8 @@ pub(crate) enum Deed {
     Text(Vec<u8>),
     /// It gets another text, and a file next to it the map that it had.
     Outline(Outlined),
+    /// It or its map gets the debug id that both have then.
+    Identify(Identified),
 }
 
 /// The text with its comment set to this URL.
@@ -95,5 +98,6 @@ pub(crate) fn deed_of<D: Disk>(
         ScriptTask::Remove => removed(alloc, name.as_bytes(), text),
         ScriptTask::Inline => inlined(alloc, disk, path, text),
         ScriptTask::Outline => taken_out(alloc, disk, path, text),
+        ScriptTask::Identify => identity_of(alloc, disk, path, text),
     }
 }

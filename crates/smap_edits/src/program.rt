@@ -1,6 +1,7 @@
 //! A run over scripts.
 use crate::comments::is_fit;
 use crate::deciding::{Deed, deed_of};
+use crate::identifying::write_both;
 use crate::outlining::write_map;
 use crate::refusal::Refusal;
 use crate::replacing::replace_file;
@@ -19,6 +20,8 @@ pub enum ScriptTask<'a> {
     Inline,
     /// The map in its comment is put into a file next to it.
     Outline,
+    /// It and the map in its folder get one debug id.
+    Identify,
 }
 
 /// What is asked of a run over scripts.
@@ -71,6 +74,7 @@ fn rewrite<E: Eprint + AllocGlobal, D: Disk>(
                 alloc, disk, path, Some(stamp), &outlined.text,
             )?)
         }
+        Deed::Identify(identified) => write_both(alloc, disk, path, stamp, identified),
     }
 }
 

@@ -23,6 +23,14 @@ pub(crate) enum Refusal {
     NotMap,
     /// Another file has the name that its map would get.
     Taken,
+    /// It holds its map.
+    Within,
+    /// It or the file of its map is a link.
+    Link,
+    /// It or its map has a debug id that can't be copied.
+    OddId,
+    /// It and its map have different debug ids.
+    OtherId,
     /// A file has, or would have, more than 268,435,456 bytes.
     TooLong,
     /// A file can't be read.
@@ -49,6 +57,10 @@ impl Refusal {
             Refusal::Absent => "the map that it names is not there",
             Refusal::NotMap => "the file that it names is no map",
             Refusal::Taken => "another file has the name of its map",
+            Refusal::Within => "its map is within it",
+            Refusal::Link => "it or its map is a link",
+            Refusal::OddId => "the debug id that it or its map has is invalid",
+            Refusal::OtherId => "its map has another debug id",
             Refusal::TooLong => "input too long",
             Refusal::Unreadable => "cannot read it",
             Refusal::Unwritable => "cannot write it",

@@ -1,9 +1,9 @@
 -- Debug ids (the proposal "Source Map Debug ID" for ECMA-426: a comment in the last five lines of the
--- script).
-use Rattle.std.specs.Prelude.{ℕ, zero, suc, bytes_eq, map, ◌-◌, ◌==◌, not, Bool, List, Option, None, Some}
+-- script, which a style sheet has closed).
+use Rattle.std.specs.Prelude.{ℕ, zero, suc, bytes_eq, map, ◌-◌, ◌==◌, ◌||◌, not, Bool, List, Option, None, Some}
 use Rattle.std.specs.Prelude.{codes, cond, drop, take, length, nat_eq}
 use Rattle.std.specs.Char.{is_ascii_whitespace, to_ascii_lowercase}
-use Rattle.std.specs.List.{starts_with, suffix_len}
+use Rattle.std.specs.List.{prefix_len, starts_with, suffix_len}
 use Rattle.std.specs.Option.{option_or, option_and_then}
 use Rattle.serde_json.specs.Data.{Data}
 use Rattle.serde_json.specs.Find.{get, as_str}
@@ -12,9 +12,17 @@ use Rattle.serde_json.specs.Find.{get, as_str}
 abbrev pub trimmed : List ℕ → List ℕ
 trimmed text = take (length text - suffix_len is_ascii_whitespace text) text
 
+-- white space and what ends a closed comment end its id
+abbrev pub is_closed_id : ℕ → Bool
+is_closed_id b = not (is_ascii_whitespace b || b == 42)
+
+abbrev pub closed_id : List ℕ → List ℕ
+closed_id text = take (prefix_len is_closed_id text) text
+
 -- the id of a line that is a comment with one
 abbrev pub id_in : List ℕ → Option (List ℕ)
-id_in line = cond (starts_with nat_eq line (codes "//# debugId=")) (Some (trimmed (drop 12 line))) None
+id_in line = cond (starts_with nat_eq line (codes "//# debugId=")) (Some (trimmed (drop 12 line)))
+    (cond (starts_with nat_eq line (codes "/*# debugId=")) (Some (closed_id (drop 12 line))) None)
 
 abbrev pub is_within_line : ℕ → Bool
 is_within_line b = not (b == 10)
@@ -42,6 +50,10 @@ debug_id text = id_in_lines 5 (trimmed text)
 abbrev pub same_id : List ℕ → List ℕ → Bool
 same_id a b = bytes_eq (map to_ascii_lowercase a) (map to_ascii_lowercase b)
 
--- the id of a map: the member `debugId`, or `debug_id` where that is absent, if it is a string
+-- the member of a map that holds its id: `debugId`, or `debug_id` where that is absent
+abbrev pub id_member : Data → Option Data
+id_member d = option_or (get (codes "debugId") d) (get (codes "debug_id") d)
+
+-- the id of a map, if that member is a string
 abbrev pub map_id : Data → Option (List ℕ)
-map_id d = option_and_then as_str (option_or (get (codes "debugId") d) (get (codes "debug_id") d))
+map_id d = option_and_then as_str (id_member d)

@@ -1,8 +1,11 @@
 //! The debug id of a script, by which services for crash reports find its map.
-ghost use Rattle.std.specs.Prelude.{◌≡◌, ◌≤◌, length, option_map};
+ghost use Rattle.std.specs.Prelude.{◌≡◌, ◌≤◌, length, option_map, option_copied};
 ghost use Rattle.std.specs.Char.{is_ascii_whitespace};
-ghost use Rattle.std.specs.List.{suffix_len};
+ghost use Rattle.std.specs.List.{prefix_len, suffix_len};
+ghost use Rattle.serde_json.specs.View.{view};
 ghost use Rattle.smap_lint_rules.specs.Ids as spec;
+
+use serde_json::Value;
 
 /// So many lines at the end of a script may hold its debug id.
 const LINES: u8 = 5;
@@ -24,12 +27,24 @@ fn trimmed<'a>(text: &'a [u8]) -> &'a [u8]
     &text[..text.len() - white_count_at_end(text)]
 }
 
+fn closed_size(text: &[u8]) -> usize
+    ensures value { result ≡ prefix_len spec.is_closed_id text.now }
+    ensures within { result ≤ length text.now }
+{
+    text.iter()
+        .take_while(|b| !(b.is_ascii_whitespace() || **b == b'*'))
+        .count()
+}
+
 /// The id that a line gives, if it is a comment with one.
 fn id_in<'a>(line: &'a [u8]) -> Option<&'a [u8]>
     ensures { option_map (λ id. id.now) result ≡ spec.id_in line.now }
 {
     if line.starts_with(b"//# debugId=") {
         Some(trimmed(&line[12..]))
+    } else if line.starts_with(b"/*# debugId=") {
+        let rest = &line[12..];
+        Some(&rest[..closed_size(rest)])
     } else {
         None
     }
@@ -66,12 +81,26 @@ fn id_in_lines<'a>(text: &'a [u8], lines: u8) -> Option<&'a [u8]>
     }
 }
 
-/// The debug id that a script has in its last five lines, as `//# debugId=ID`; the last one counts. Lines end
-/// at LF, and white space at the end of the script is left out.
+/// The debug id that a script has in its last five lines, as `//# debugId=ID` or `/*# debugId=ID */`; the last
+/// one counts. Lines end at LF, and white space at the end of the script is left out.
 pub fn debug_id<'a>(text: &'a [u8]) -> Option<&'a [u8]>
     ensures { option_map (λ id. id.now) result ≡ spec.debug_id text.now }
 {
     id_in_lines(trimmed(text), LINES)
+}
+
+/// The member that holds the debug id of a map: `debugId`, or `debug_id` where that is absent.
+pub fn id_member<'a>(tree: &'a Value) -> Option<&'a Value>
+    ensures { option_map (λ v. view v.now) result ≡ spec.id_member (view tree.now) }
+{
+    tree.get("debugId").or(tree.get("debug_id"))
+}
+
+/// The debug id of a map, if that member is a string.
+pub fn map_id<'a>(tree: &'a Value) -> Option<&'a str>
+    ensures { option_copied result ≡ spec.map_id (view tree.now) }
+{
+    id_member(tree)?.as_str()
 }
 
 /// Whether two debug ids are one: the case of letters doesn't count.

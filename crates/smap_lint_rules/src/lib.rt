@@ -23,7 +23,7 @@ mod texts;
 mod wording;
 
 pub use checks::{Check, RULES, rule_named};
-pub use ids::{debug_id, same_id};
+pub use ids::{debug_id, id_member, map_id, same_id};
 pub use members::{Members, Paths, members_of};
 pub use pair::{Pair, Script, lint_pair};
 pub use paths::file_agrees;

@@ -4,9 +4,10 @@ ghost use Rattle.std.specs.Prelude.{option_copied, option_map, slice_get, string
 ghost use Rattle.std.specs.List.{flat_map};
 ghost use Rattle.serde_json.specs.Find.{as_array};
 ghost use Rattle.serde_json.specs.View.{view};
-ghost use Rattle.smap_lint_rules.specs.Ids.{map_id};
+ghost use Rattle.smap_lint_rules.specs.Ids.{map_id as id_of};
 ghost use Rattle.smap_lint_rules.specs.Members as spec;
 
+use crate::ids::map_id;
 use crate::paths::is_machine_path;
 use serde_json::Value;
 use std::alloc::{AllocError, Global};
@@ -31,14 +32,6 @@ pub struct Paths {
     pub machine_path: Option<String>,
     /// How many of the listed sources are.
     pub machine_paths: usize,
-}
-
-/// The debug id of a map.
-fn id_of<'a>(tree: &'a Value) -> Option<&'a str>
-    ensures { option_copied result ≡ map_id (view tree.now) }
-{
-    let id = tree.get("debugId").or(tree.get("debug_id"))?;
-    id.as_str()
 }
 
 fn owned(alloc: Global, text: Option<&str>) -> Result<Option<String>, AllocError>
@@ -252,7 +245,7 @@ fn paths_of(alloc: Global, tree: &Value) -> Result<Paths, AllocError>
 ///
 /// `AllocError`.
 pub fn members_of(alloc: Global, tree: &Value) -> Result<Members, AllocError>
-    ensures debug_id { IfOk result (λ m. option_map string_bytes m.debug_id ≡ map_id (view tree.now)) }
+    ensures debug_id { IfOk result (λ m. option_map string_bytes m.debug_id ≡ id_of (view tree.now)) }
     ensures absolute_root { IfOk result (λ m. option_map string_bytes m.paths.absolute_root
         ≡ slice_get (spec.absolute_roots (view tree.now)) 0) }
     ensures machine_path { IfOk result (λ m. option_map string_bytes m.paths.machine_path
@@ -260,7 +253,7 @@ pub fn members_of(alloc: Global, tree: &Value) -> Result<Members, AllocError>
     ensures machine_paths { IfOk result (λ m. m.paths.machine_paths
         ≡ length (spec.machine_paths (view tree.now))) }
 {
-    let debug_id = owned(alloc, id_of(tree))?;
+    let debug_id = owned(alloc, map_id(tree))?;
     let paths = paths_of(alloc, tree)?;
     Ok(Members { debug_id, paths })
 }

@@ -21,33 +21,14 @@ fn lint_build<E: Eprint + AllocGlobal, D: Disk, W: Write>(
     Ok(0)
 }
 
-/// Sets or removes the comments of scripts.
-fn comment<E: Eprint + AllocGlobal, D: Disk, W: Write>(
+/// Does this with each script.
+fn change_scripts<'a, E: Eprint + AllocGlobal, D: Disk, W: Write>(
     host: &Host<'_, E, D>,
-    asked: &MapsWords<'_>,
+    asked: &MapsWords<'a>,
+    task: ScriptTask<'a>,
     writer: &mut Watched<W>,
 ) -> Result<u8, Stop> {
-    let asked = scripts_asked(host.alloc(), asked, comment_task(asked))?;
-    edit_scripts(host, &asked, writer)
-}
-
-/// Puts maps into their scripts.
-fn inline<E: Eprint + AllocGlobal, D: Disk, W: Write>(
-    host: &Host<'_, E, D>,
-    asked: &MapsWords<'_>,
-    writer: &mut Watched<W>,
-) -> Result<u8, Stop> {
-    let asked = scripts_asked(host.alloc(), asked, ScriptTask::Inline)?;
-    edit_scripts(host, &asked, writer)
-}
-
-/// Puts maps within scripts into files.
-fn outline<E: Eprint + AllocGlobal, D: Disk, W: Write>(
-    host: &Host<'_, E, D>,
-    asked: &MapsWords<'_>,
-    writer: &mut Watched<W>,
-) -> Result<u8, Stop> {
-    let asked = scripts_asked(host.alloc(), asked, ScriptTask::Outline)?;
+    let asked = scripts_asked(host.alloc(), asked, task)?;
     edit_scripts(host, &asked, writer)
 }
 
@@ -60,10 +41,11 @@ pub(crate) fn do_other<E: Eprint + AllocGlobal, D: Disk, W: Write>(
 ) -> Result<u8, Stop> {
     match asked.command {
         MapsCommand::Extract => extract(host, asked, writer),
-        MapsCommand::Comment => comment(host, asked, writer),
-        MapsCommand::Inline => inline(host, asked, writer),
-        MapsCommand::Outline => outline(host, asked, writer),
+        MapsCommand::Comment => change_scripts(host, asked, comment_task(asked), writer),
+        MapsCommand::Inline => change_scripts(host, asked, ScriptTask::Inline, writer),
+        MapsCommand::Outline => change_scripts(host, asked, ScriptTask::Outline, writer),
         MapsCommand::Contents | MapsCommand::Rename => source(host, asked, writer),
+        MapsCommand::DebugId => change_scripts(host, asked, ScriptTask::Identify, writer),
         _ => lint_build(host, asked, writer),
     }
 }

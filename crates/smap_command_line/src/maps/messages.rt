@@ -19,6 +19,7 @@ fn command_text(command: MapsCommand) -> &'static str {
         MapsCommand::Outline => "outline",
         MapsCommand::Contents => "contents",
         MapsCommand::Rename => "rename",
+        MapsCommand::DebugId => "debug-id",
     }
 }
 

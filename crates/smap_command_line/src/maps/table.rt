@@ -52,6 +52,7 @@ pub const OPTIONS: [OptionRow; 19] = [
             outline: true,
             contents: true,
             rename: true,
+            debug_id: true,
             ..NO_COMMANDS
         },
         help: "Rewrite the files that would change, unless a map would lose a member",

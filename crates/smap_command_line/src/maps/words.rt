@@ -140,6 +140,7 @@ fn command_in(name: &str) -> Option<MapsCommand>
         "outline" => Some(MapsCommand::Outline),
         "contents" => Some(MapsCommand::Contents),
         "rename" => Some(MapsCommand::Rename),
+        "debug-id" => Some(MapsCommand::DebugId),
         _ => None,
     }
 }
