@@ -28,6 +28,7 @@ smap-maps extract: --output --url-bytes --version --help
 smap-maps comment: --write --set --remove --url-bytes --version --help
 smap-maps inline: --write --url-bytes --version --help
 smap-maps outline: --write --url-bytes --version --help
+smap-maps diff: --base --format --url-bytes --version --help
 smap-view: --base --url-bytes --compare --sizes --budget --version --help
 '
 
@@ -41,7 +42,7 @@ smap-trace --url-bytes:
 smap-trace --source-prefix:
 smap-trace -o: FILE
 smap-maps --base:
-smap-maps --format: text gnu github sarif junit json
+smap-maps --format: text gnu github sarif junit json markdown
 smap-maps --rule:
 smap-maps --min-mapped:
 smap-maps --set:

@@ -46,7 +46,8 @@ command_named name =
     (if bytes_eq name (codes "extract") then Some command.Extract else
     (if bytes_eq name (codes "comment") then Some command.Comment else
     (if bytes_eq name (codes "inline") then Some command.Inline else
-    (if bytes_eq name (codes "outline") then Some command.Outline else None))))))))
+    (if bytes_eq name (codes "outline") then Some command.Outline else
+    (if bytes_eq name (codes "diff") then Some command.Diff else None)))))))))
 
 -- The first argument is the command, and those behind it are paths.
 abbrev pub command_asked : List Text → Option MapsCommand

@@ -17,6 +17,7 @@ pub enum MapsCommand {
     Comment,
     Inline,
     Outline,
+    Diff,
 }
 
 /// Commands of `smap-maps`.
@@ -31,6 +32,7 @@ pub struct Commands {
     pub comment: bool,
     pub inline: bool,
     pub outline: bool,
+    pub diff: bool,
 }
 
 /// What the value of an option has to be.
@@ -54,8 +56,11 @@ pub enum Value {
     Level,
 }
 
-/// The forms of the findings of `smap-maps lint`.
-pub const FORMATS: [&str; 6] = ["text", "gnu", "github", "sarif", "junit", "json"];
+/// The forms of the findings of `smap-maps lint`, and of what `diff` writes, which has some of them and the
+/// last one.
+pub const FORMATS: [&str; 7] = [
+    "text", "gnu", "github", "sarif", "junit", "json", "markdown",
+];
 
 /// How much a rule of `smap-maps lint` may count.
 pub const LEVELS: [&str; 4] = ["off", "note", "warning", "error"];
@@ -110,6 +115,7 @@ pub(crate) const NO_COMMANDS: Commands = Commands {
     comment: false,
     inline: false,
     outline: false,
+    diff: false,
 };
 
 /// All commands.
@@ -123,6 +129,7 @@ pub(crate) const ALL_COMMANDS: Commands = Commands {
     comment: true,
     inline: true,
     outline: true,
+    diff: true,
 };
 
 /// What most flags have in common.
@@ -172,6 +179,7 @@ impl Commands {
             MapsCommand::Comment => self.comment,
             MapsCommand::Inline => self.inline,
             MapsCommand::Outline => self.outline,
+            MapsCommand::Diff => self.diff,
         }
     }
 }

@@ -17,6 +17,7 @@ fn command_text(command: MapsCommand) -> &'static str {
         MapsCommand::Comment => "comment",
         MapsCommand::Inline => "inline",
         MapsCommand::Outline => "outline",
+        MapsCommand::Diff => "diff",
     }
 }
 
@@ -29,6 +30,9 @@ fn clash_text(clash: Clash) -> &'static str {
         Clash::SetRemove => "--set and --remove at once",
         Clash::NoOutput => "extract needs --output",
         Clash::NoComment => "comment needs --set or --remove",
+        Clash::NotTwo => "diff needs OLD and NEW, two maps or two folders",
+        Clash::DiffFormat => "diff writes text, json or markdown",
+        Clash::LintFormat => "lint writes no markdown",
     }
 }
 

@@ -138,6 +138,7 @@ fn command_in(name: &str) -> Option<MapsCommand>
         "comment" => Some(MapsCommand::Comment),
         "inline" => Some(MapsCommand::Inline),
         "outline" => Some(MapsCommand::Outline),
+        "diff" => Some(MapsCommand::Diff),
         _ => None,
     }
 }
