@@ -31,6 +31,7 @@ smap-maps outline: --write --url-bytes --version --help
 smap-maps contents: --write --drop --add --only --except --url-bytes --version --help
 smap-maps rename: --write --source-prefix --strip-common --url-bytes --version --help
 smap-maps debug-id: --write --url-bytes --version --help
+smap-maps diff: --base --format --url-bytes --version --help
 smap-view: --base --url-bytes --compare --sizes --budget --version --help
 '
 
@@ -47,7 +48,7 @@ smap-maps --base:
 smap-maps --only:
 smap-maps --except:
 smap-maps --source-prefix:
-smap-maps --format: text gnu github sarif junit json
+smap-maps --format: text gnu github sarif junit json markdown
 smap-maps --rule:
 smap-maps --min-mapped:
 smap-maps --set:

@@ -49,7 +49,8 @@ command_named name =
     (if bytes_eq name (codes "outline") then Some command.Outline else
     (if bytes_eq name (codes "contents") then Some command.Contents else
     (if bytes_eq name (codes "rename") then Some command.Rename else
-    (if bytes_eq name (codes "debug-id") then Some command.DebugId else None)))))))))))
+    (if bytes_eq name (codes "debug-id") then Some command.DebugId else
+    (if bytes_eq name (codes "diff") then Some command.Diff else None))))))))))))
 
 -- The first argument is the command, and those behind it are paths.
 abbrev pub command_asked : List Text → Option MapsCommand

@@ -20,6 +20,7 @@ pub enum MapsCommand {
     Contents,
     Rename,
     DebugId,
+    Diff,
 }
 
 /// Commands of `smap-maps`.
@@ -37,6 +38,7 @@ pub struct Commands {
     pub contents: bool,
     pub rename: bool,
     pub debug_id: bool,
+    pub diff: bool,
 }
 
 /// What the value of an option has to be.
@@ -60,8 +62,11 @@ pub enum Value {
     Level,
 }
 
-/// The forms of the findings of `smap-maps lint`.
-pub const FORMATS: [&str; 6] = ["text", "gnu", "github", "sarif", "junit", "json"];
+/// The forms of the findings of `smap-maps lint`, and of what `diff` writes, which has some of them and the
+/// last one.
+pub const FORMATS: [&str; 7] = [
+    "text", "gnu", "github", "sarif", "junit", "json", "markdown",
+];
 
 /// How much a rule of `smap-maps lint` may count.
 pub const LEVELS: [&str; 4] = ["off", "note", "warning", "error"];
@@ -119,6 +124,7 @@ pub(crate) const NO_COMMANDS: Commands = Commands {
     contents: false,
     rename: false,
     debug_id: false,
+    diff: false,
 };
 
 /// All commands.
@@ -135,6 +141,7 @@ pub(crate) const ALL_COMMANDS: Commands = Commands {
     contents: true,
     rename: true,
     debug_id: true,
+    diff: true,
 };
 
 /// What most flags have in common.
@@ -187,6 +194,7 @@ impl Commands {
             MapsCommand::Contents => self.contents,
             MapsCommand::Rename => self.rename,
             MapsCommand::DebugId => self.debug_id,
+            MapsCommand::Diff => self.diff,
         }
     }
 }

@@ -1,4 +1,5 @@
 pub mod CountLemmas
 pub mod CutLemmas
 pub mod DropLemmas
+pub mod LeadingLemmas
 pub mod ListLemmas

@@ -85,7 +85,7 @@ fn named_first(alloc: Global, first: &str, rest: &[&str]) -> Result<String, Allo
 }
 
 /// Texts, a few of them by name.
-fn named(alloc: Global, texts: &[&str]) -> Result<String, AllocError>
+pub(crate) fn named(alloc: Global, texts: &[&str]) -> Result<String, AllocError>
     ensures { IfOk result (λ t. string_bytes t ≡ spec.named (map (λ n. n.now) texts.now)) }
 {
     if texts.is_empty() {

@@ -24,7 +24,7 @@ pub struct Drops<'v> {
 }
 
 /// The entries of an array, and none of anything else.
-fn entries_of(value: &Value) -> &[Value]
+pub(crate) fn entries_of(value: &Value) -> &[Value]
     ensures { map view result.now ≡ spec.items_if (as_array (view value.now)) }
 {
     match value.as_array() {

@@ -8,7 +8,7 @@ use smap_command_line::maps::MapsWords;
 use smap_extract::{Extraction, Written, write_files};
 use smap_link::{FileKind, file_kind, script_url};
 use smap_map_files::{Home, MapText, ScriptMap, map_of as map_of_script};
-use smap_record::{Base, BaseFault};
+use smap_record::{Base, BaseFault, SourceMap};
 use smap_system::{Disk, FileFault, Host, LIMIT, Stop, Watched, parted, read_file};
 use std::alloc::{AllocError, Global};
 use std::io::Write;
@@ -28,11 +28,11 @@ struct Found {
     is_file: bool,
 }
 
-fn no_memory() -> Verdict {
+pub(crate) fn no_memory() -> Verdict {
     Verdict::Failed(Failure::Memory)
 }
 
-/// Says why nothing is done with a map, and answers the status of that.
+/// Says why a map isn't read, and answers the status of that.
 pub(crate) fn refuse<E: Eprint + AllocGlobal, D: Disk>(
     host: &Host<'_, E, D>,
     file: &str,
@@ -47,7 +47,7 @@ pub(crate) fn refuse<E: Eprint + AllocGlobal, D: Disk>(
     Ok(outcome.verdict.status())
 }
 
-fn bytes_of<D: Disk>(alloc: Global, disk: &D, file: &str) -> Result<Vec<u8>, Verdict> {
+pub(crate) fn bytes_of<D: Disk>(alloc: Global, disk: &D, file: &str) -> Result<Vec<u8>, Verdict> {
     match read_file(alloc, disk, file, LIMIT) {
         Ok(bytes) => Ok(bytes),
         Err(FileFault::TooLong) => Err(Verdict::Failed(Failure::TooLong)),
@@ -56,7 +56,7 @@ fn bytes_of<D: Disk>(alloc: Global, disk: &D, file: &str) -> Result<Vec<u8>, Ver
     }
 }
 
-fn base_of(alloc: Global, url: &[u8]) -> Result<Base, Verdict> {
+pub(crate) fn base_of(alloc: Global, url: &[u8]) -> Result<Base, Verdict> {
     let Ok(url) = std::str::from_utf8(url) else {
         return Err(Verdict::NotUrl);
     };
@@ -64,6 +64,15 @@ fn base_of(alloc: Global, url: &[u8]) -> Result<Base, Verdict> {
         Ok(base) => Ok(base),
         Err(BaseFault::NotUrl) => Err(Verdict::NotUrl),
         Err(BaseFault::Memory) => Err(no_memory()),
+    }
+}
+
+/// The map that a text is.
+pub(crate) fn map_in(alloc: Global, text: &MapText<'_>) -> Result<SourceMap, Verdict> {
+    match map_of(alloc, text.base, text.bytes, text.url_bytes) {
+        Ok(Some(map)) => Ok(map),
+        Ok(None) => Err(Verdict::LongUrls(text.url_bytes)),
+        Err(error) => Err(unread(alloc, text, error)),
     }
 }
 
@@ -75,21 +84,16 @@ fn gather(
     extraction: &mut Extraction,
 ) -> Result<(), Verdict> {
     let base = base_of(alloc, &found.url)?;
-    match map_of(alloc, &base, &found.bytes, url_bytes) {
-        Ok(Some(map)) => match extraction.add_map(alloc, &map) {
-            Ok(()) => Ok(()),
-            Err(_) => Err(no_memory()),
-        },
-        Ok(None) => Err(Verdict::LongUrls(url_bytes)),
-        Err(error) => {
-            let text = MapText {
-                bytes: &found.bytes,
-                base: &base,
-                url_bytes,
-                is_file: found.is_file,
-            };
-            Err(unread(alloc, &text, error))
-        }
+    let text = MapText {
+        bytes: &found.bytes,
+        base: &base,
+        url_bytes,
+        is_file: found.is_file,
+    };
+    let map = map_in(alloc, &text)?;
+    match extraction.add_map(alloc, &map) {
+        Ok(()) => Ok(()),
+        Err(_) => Err(no_memory()),
     }
 }
 

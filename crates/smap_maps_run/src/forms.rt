@@ -19,7 +19,12 @@ pub(crate) enum Form {
 }
 
 /// The bytes of a map that was read in a form.
-fn written(alloc: Global, form: Form, base: &Base, map: &SourceMap) -> Result<Vec<u8>, AllocError>
+pub(crate) fn written(
+    alloc: Global,
+    form: Form,
+    base: &Base,
+    map: &SourceMap,
+) -> Result<Vec<u8>, AllocError>
     ensures text { IfOk result (λ v. v.items ≡ written_text form base.now map.now) }
     ensures read_again { OnOk result (IsReadAgainAs form base.now map.now) }
 {

@@ -11,6 +11,7 @@
 
 mod changing;
 mod deciding;
+mod differing;
 mod extracting;
 mod forms;
 mod json_lines;

@@ -58,7 +58,7 @@ pub(crate) fn plain(alloc: Global, verdict: Verdict) -> Outcome
 }
 
 /// The tree of a map that is accepted.
-fn tree(alloc: Global, bytes: &[u8]) -> Result<Value, AllocError>
+pub(crate) fn tree(alloc: Global, bytes: &[u8]) -> Result<Value, AllocError>
     ensures { IfOk result (λ t. map_tree bytes.now ≡ Ok (view t)) }
 {
     match map_tree(alloc, bytes) {

@@ -1,9 +1,11 @@
 pub mod Amounts
+pub mod Budgets
 pub mod Bytes
 pub mod Comments
 pub mod Cursors
 pub mod Embedding
 pub mod Folders
+pub mod Markdown
 pub mod Numbers
 pub mod Owners
 pub mod Places

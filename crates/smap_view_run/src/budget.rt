@@ -1,9 +1,10 @@
 //! How many bytes sources may have.
 use crate::files::read_named;
+use crate::job::Other;
 use serde_json::Value;
 use smap_record::SourceMap;
 use smap_system::{Disk, Host, Stop};
-use smap_view_page::Sizes;
+use smap_view_page::{Sizes, growth_named, most_after, old_bytes_of};
 use std::alloc::Global;
 
 /// How many bytes sources may have, and have so far.
@@ -53,7 +54,42 @@ fn allowances<E: Eprint + AllocGlobal, D: Disk>(
     Ok(allowances)
 }
 
+/// The most bytes that a growth over the other build allows.
+fn most_grown<E: Eprint + AllocGlobal, D: Disk>(
+    host: &Host<'_, E, D>,
+    text: &str,
+    other: Option<&Other<'_>>,
+) -> Result<u64, Stop> {
+    let Some(growth) = growth_named(text) else {
+        let what = "--budget: expected a file, or a growth such as +5% or +10KB";
+        return Err(host.fail_with(2, what, text));
+    };
+    match other {
+        Some(other) => Ok(most_after(growth, old_bytes_of(&other.parts))),
+        None => Err(host.fail(2, "--budget: a growth needs --compare OLD")),
+    }
+}
+
 impl Budget {
+    /// What a growth allows, or a file: a text that begins with `+` is a growth.
+    pub(crate) fn of<E: Eprint + AllocGlobal, D: Disk>(
+        host: &Host<'_, E, D>,
+        text: &str,
+        other: Option<&Other<'_>>,
+    ) -> Result<Budget, Stop> {
+        if !text.starts_with('+') {
+            return Budget::read(host, text);
+        }
+        let most = most_grown(host, text, other)?;
+        let mut allowances = Vec::new(host.alloc());
+        allowances.push(Allowance {
+            name: String::new(host.alloc()),
+            most,
+            bytes: 0,
+        })?;
+        Ok(Budget { allowances })
+    }
+
     /// Nothing is limited.
     pub(crate) fn none(alloc: Global) -> Budget {
         Budget {
@@ -62,7 +98,7 @@ impl Budget {
     }
 
     /// What a file allows.
-    pub(crate) fn read<E: Eprint + AllocGlobal, D: Disk>(
+    fn read<E: Eprint + AllocGlobal, D: Disk>(
         host: &Host<'_, E, D>,
         path: &str,
     ) -> Result<Budget, Stop> {

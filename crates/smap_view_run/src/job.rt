@@ -1,9 +1,8 @@
 //! What a run does, and what there is to show.
-use crate::comparing::Builds;
 use crate::loading::{Content, Item, Loaded, Reading, load};
-use crate::parts::{Measures, Part, push_parts};
 use crate::status::Verdict;
 use smap_system::{Disk, Host, Stop};
+use smap_view_page::{Builds, Measures, Part, measured_script, push_parts, unmeasured};
 use std::alloc::{AllocError, Global};
 
 /// What a run does.
@@ -70,6 +69,14 @@ pub(crate) fn fail_empty<E: Eprint + AllocGlobal, D: Disk>(
     match format!(in host.alloc(); "{what} {given}") {
         Ok(text) => host.fail(status, text.as_str()),
         Err(_) => Stop::Memory,
+    }
+}
+
+/// Measures a script. Of a refused map nothing is counted.
+pub(crate) fn measures_of(alloc: Global, loaded: &Loaded) -> Result<Measures, AllocError> {
+    match &loaded.content {
+        Content::Map(map, text) => measured_script(alloc, map, text.as_str(), loaded.code),
+        Content::Refused(..) => Ok(unmeasured(alloc)),
     }
 }
 

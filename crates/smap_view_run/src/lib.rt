@@ -7,14 +7,12 @@
 #![tactic(auto)]
 
 mod budget;
-mod comparing;
 mod files;
 mod folders;
 mod job;
 mod loading;
 mod measuring;
 mod page;
-mod parts;
 mod program;
 mod refusals;
 mod scripts;

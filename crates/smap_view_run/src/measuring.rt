@@ -1,13 +1,12 @@
 //! The sizes of a run's scripts, written.
 use crate::budget::Budget;
-use crate::comparing::growth_sizes;
-use crate::job::{Job, builds_of, fail_empty, loaded, note};
+use crate::job::{Job, builds_of, fail_empty, loaded, measures_of, note};
 use crate::loading::{Content, Loaded};
-use crate::parts::{Measures, Part, measures_of};
-use crate::sizing::{all_text, sizes_text};
+use crate::sizing::{all_text, growth_sizes, sizes_text};
 use crate::status::Verdict;
 use smap_command_line::view::{SizesForm, ViewWords};
 use smap_system::{Disk, Host, Stop, Watched};
+use smap_view_page::{Measures, Part};
 use std::alloc::{AllocError, Global};
 use std::io::Write;
 
@@ -149,7 +148,7 @@ pub(crate) fn write_sizes<E: Eprint + AllocGlobal, D: Disk, W: Write>(
     writer: &mut Watched<W>,
 ) -> Result<Verdict, Stop> {
     let mut budget = match asked.options.text("budget") {
-        Some(path) => Budget::read(host, path)?,
+        Some(text) => Budget::of(host, text, job.other)?,
         None => Budget::none(host.alloc()),
     };
     let mut verdict = write_all(host, job, asked.sizes(), &mut budget, writer)?;

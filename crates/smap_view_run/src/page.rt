@@ -1,10 +1,9 @@
 //! The page of one script or several.
 use crate::loading::{Content, Loaded};
-use crate::parts::Measures;
 use serde_json::{Value, json};
 use smap_record::SourceMap;
 use smap_system::{Disk, Host, Stop, Watched};
-use smap_view_page::{embedded, map_json, text_json};
+use smap_view_page::{Measures, embedded, map_json, text_json};
 use std::alloc::{AllocError, Global};
 use std::io::Write;
 

@@ -1,9 +1,8 @@
 //! A run of `smap-view`.
 use crate::folders::{items_in, scripts_in, with_slash};
-use crate::job::{Job, Other, fail_empty, loaded, note};
+use crate::job::{Job, Other, fail_empty, loaded, measures_of, note};
 use crate::loading::{Item, Loaded, Reading, item_of};
 use crate::measuring::write_sizes;
-use crate::parts::{Part, as_old, measures_of};
 use crate::status::Verdict;
 use crate::template::read_template;
 use crate::writing::{write_file, write_page};
@@ -11,6 +10,7 @@ use smap_command_line::VERSION;
 use smap_command_line::view::{Asked, HELP, ViewWords, WordFault, message, view_words};
 use smap_map_files::{base_given, folder_url, refuse_options};
 use smap_system::{Disk, Host, Kind, Stop, Watched, parted};
+use smap_view_page::{Part, as_old};
 use std::alloc::{AllocError, Global};
 use std::io::Write;
 

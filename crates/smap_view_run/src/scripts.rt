@@ -2,6 +2,7 @@
 use smap_map_files::is_within;
 use smap_record::SourceMap;
 use smap_system::{Disk, Host, Kind, Stop, parted};
+use smap_view_page::script_names;
 
 /// The file beside a map with this name, if there is one. A link counts only if it leads to a file there.
 fn beside<E: Eprint + AllocGlobal, D: Disk>(
@@ -25,22 +26,16 @@ fn beside<E: Eprint + AllocGlobal, D: Disk>(
     Err(host.fail(2, text.as_str()))
 }
 
-/// The last part of a name that may have folders before it.
-fn last_part(name: &str) -> &str {
-    parted(name).1
-}
-
-/// The script beside a map with this name, unless it is empty or the map's own.
+/// The script beside a map with this name, unless it is empty.
 fn candidate<E: Eprint + AllocGlobal, D: Disk>(
     host: &Host<'_, E, D>,
     map_path: &str,
     script: &str,
 ) -> Result<Option<String>, Stop> {
-    let (folder, name) = parted(map_path);
-    if script.is_empty() || script == name {
+    if script.is_empty() {
         return Ok(None);
     }
-    beside(host, map_path, folder, script)
+    beside(host, map_path, parted(map_path).0, script)
 }
 
 fn fail_missing<E: Eprint + AllocGlobal, D: Disk>(
@@ -57,26 +52,19 @@ fn fail_missing<E: Eprint + AllocGlobal, D: Disk>(
 }
 
 /// The path of a map's script: the file beside it that is called as the last part of its member `file`, or as
-/// the map without `.map`. So a map can't name any other file of this machine.
+/// the map without `.map`.
 pub(crate) fn script_of<E: Eprint + AllocGlobal, D: Disk>(
     host: &Host<'_, E, D>,
     map_path: &str,
     map: &SourceMap,
 ) -> Result<String, Stop> {
-    let named = match map.file() {
-        Some(file) => last_part(file),
-        None => "",
-    };
+    let (named, without) = script_names(parted(map_path).1, map.file());
     if let Some(path) = candidate(host, map_path, named)? {
         return Ok(path);
     }
-    let name = last_part(map_path);
-    let without = name.strip_suffix(".map").unwrap_or(name);
     if let Some(path) = candidate(host, map_path, without)? {
         return Ok(path);
     }
-    if named.is_empty() {
-        return Err(fail_missing(host, map_path, without));
-    }
-    Err(fail_missing(host, map_path, named))
+    let name = if named.is_empty() { without } else { named };
+    Err(fail_missing(host, map_path, name))
 }

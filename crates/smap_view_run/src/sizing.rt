@@ -1,11 +1,13 @@
 //! The sizes of sources and folders, as they are written for people and for programs.
 use crate::loading::{Content, Loaded};
-use crate::parts::{Measures, Part, at, bytes_of, push_parts, rows_of};
 use serde_json::{Value, json};
 use smap_command_line::view::SizesForm;
 use smap_record::SourceMap;
 use smap_system::printable;
-use smap_view_page::{Row, Sizes, by_growth, folders, share, summed};
+use smap_view_page::{
+    Builds, Measures, Part, Row, Sizes, at, by_growth, bytes_of, folders, growth_table, growth_tsv,
+    growth_value, json_line, push_parts, rows_of, share, summed,
+};
 use std::alloc::{AllocError, Global};
 use std::cmp::Ordering;
 
@@ -131,15 +133,6 @@ fn folder_values(alloc: Global, parts: &[Part]) -> Result<Value, AllocError> {
     Ok(Value::Array(values))
 }
 
-/// A value in one line. Names come from strangers: a character that a terminal may take for something else
-/// than what it shows stands in a string, where `printable` escapes it as JSON does.
-pub(crate) fn json_line(alloc: Global, value: &Value) -> Result<String, AllocError> {
-    let text = value.to_string(alloc)?;
-    let mut text = printable(alloc, text.as_bytes())?;
-    text.push('\n')?;
-    Ok(text)
-}
-
 /// The sizes of a script as JSON.
 fn line(
     alloc: Global,
@@ -166,6 +159,20 @@ fn line(
         "unsourced": unsourced
     })?;
     json_line(alloc, &value)
+}
+
+/// The growth in the form that is asked for.
+pub(crate) fn growth_sizes(
+    alloc: Global,
+    form: SizesForm,
+    given: &str,
+    builds: Builds<'_>,
+) -> Result<String, AllocError> {
+    match form {
+        SizesForm::Table => growth_table(alloc, given, builds),
+        SizesForm::Tsv => growth_tsv(alloc, builds),
+        SizesForm::Json => json_line(alloc, &growth_value(alloc, builds)?),
+    }
 }
 
 /// The sizes of a script in the form that is asked for; nothing where its map is refused.

@@ -1,12 +1,11 @@
 //! The page of a run, written.
-use crate::comparing::growth_value;
-use crate::job::{Job, builds_of, fail_empty, loaded, note};
+use crate::job::{Job, builds_of, fail_empty, loaded, measures_of, note};
 use crate::loading::Loaded;
 use crate::page::{data_of, write_data, write_growth};
-use crate::parts::{Measures, Part, measures_of};
 use crate::status::Verdict;
 use crate::template::parts;
 use smap_system::{Beside, Disk, Host, Kind, Stop, Watched, create_beside};
+use smap_view_page::{Measures, Part, growth_value};
 use std::io::Write;
 
 /// Writes what has grown, if there are two builds.

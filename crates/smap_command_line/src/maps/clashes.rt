@@ -33,6 +33,12 @@ pub enum Clash {
     PrefixStrip,
     /// `rename` has neither `--source-prefix` nor `--strip-common`.
     NoRename,
+    /// `diff` has another number of paths than two.
+    NotTwo,
+    /// `--format` is none of those of `diff`.
+    DiffFormat,
+    /// `--format` is none of those of `lint`.
+    LintFormat,
 }
 
 /// Whether an option is given.
@@ -114,6 +120,43 @@ fn unless(test: bool, clash: Clash) -> Option<Clash>
     if test { None } else { Some(clash) }
 }
 
+/// Whether reports are to have this form.
+fn has_format(options: &Options<'_>, name: &str) -> bool
+    ensures { result ≡ spec.has_format name.now (rows_in options.now) }
+{
+    match options.text("format") {
+        Some(text) => text == name,
+        None => false,
+    }
+}
+
+/// Whether there are a command and two paths.
+fn has_two(options: &Options<'_>) -> bool
+    ensures { result ≡ spec.has_two (rows_in options.now) }
+{
+    match options.uses("argument") {
+        Some(texts) => texts.len() == 3,
+        None => false,
+    }
+}
+
+/// What `diff` can't do without, or can't have.
+fn lacking_diff(options: &Options<'_>) -> Option<Clash>
+    ensures { result ≡ spec.lacking_diff (rows_in options.now) }
+{
+    if !has_two(options) {
+        Some(Clash::NotTwo)
+    } else if !has_value(options, "format")
+        || has_format(options, "text")
+        || has_format(options, "json")
+        || has_format(options, "markdown")
+    {
+        None
+    } else {
+        Some(Clash::DiffFormat)
+    }
+}
+
 /// What the command can't do without, or can't have.
 fn lacking(options: &Options<'_>, command: MapsCommand) -> Option<Clash>
     ensures { result ≡ spec.lacking (rows_in options.now) command }
@@ -136,6 +179,8 @@ fn lacking(options: &Options<'_>, command: MapsCommand) -> Option<Clash>
             let is_said = has_value(options, "set") || options.has("remove");
             unless(is_said, Clash::NoComment)
         }
+        MapsCommand::Diff => lacking_diff(options),
+        MapsCommand::Lint => unless(!has_format(options, "markdown"), Clash::LintFormat),
         _ => None,
     }
 }

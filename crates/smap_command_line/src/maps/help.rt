@@ -12,6 +12,7 @@ Usage: smap-maps check [--base URL] [--json] PATH...
        smap-maps inline|outline|debug-id [--write] SCRIPT...
        smap-maps contents (--add | --drop) [--only PATTERN]... [--except PATTERN]... [--write] PATH...
        smap-maps rename (--source-prefix FROM=TO... | --strip-common) [--write] PATH...
+       smap-maps diff [--base URL] [--format text|json|markdown] OLD NEW
 
 Works on source maps: files, and each *.map in folders and below them; some commands on scripts.
 
@@ -27,9 +28,10 @@ Works on source maps: files, and each *.map in folders and below them; some comm
   contents    Put the contents of sources into maps, or take them out
   rename      Give the sources of maps other beginnings
   debug-id    Give each script and its map one debug id, by which crash reports find the map
+  diff        Say whether two maps, or the maps of two folders, mean the same, and what differs
 
   --base URL      A map's URL is URL/ and its path below the folder, instead of the file: URL of the file
-                  (check, tidy, flatten, repair)
+                  (check, tidy, flatten, repair, diff)
   --absolute      Write source URLs as they are (tidy)
   --relative      Write source URLs relative to the map's where that round-trips, which is the default (tidy)
   --write         Rewrite the files that would change, unless a map would lose a member (tidy, flatten,
@@ -46,7 +48,8 @@ Works on source maps: files, and each *.map in folders and below them; some comm
   --diff          Show which members would change (tidy, flatten)
   --json          Write a line of JSON for each map (check, tidy, flatten)
   --format FORMAT
-                  Write findings as text, gnu, github, sarif, junit or json (lint)
+                  Write findings as text, gnu, github, sarif, junit or json; differences as text, json or
+                  markdown (lint, diff)
   --rule NAME=LEVEL
                   Set how much a rule counts: off, note, warning or error (lint)
   --min-mapped N  The least part of a script, in percent, that has to be mapped (lint)
@@ -59,6 +62,6 @@ Works on source maps: files, and each *.map in folders and below them; some comm
   -h, --help      Print help
 
 Status: 0 done: no map would change, or --write has rewritten those that would; 1 a map is refused, would
-change or lose a member, or lint finds an error; 2 the command line is wrong; 3 a file can't be read or
+change or lose a member, lint finds an error, or diff a difference; 2 the command line is wrong; 3 a file can't be read or
 written; 4 out of memory; 141 nobody reads the output any more.
 ";

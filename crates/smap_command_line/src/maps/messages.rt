@@ -20,6 +20,7 @@ fn command_text(command: MapsCommand) -> &'static str {
         MapsCommand::Contents => "contents",
         MapsCommand::Rename => "rename",
         MapsCommand::DebugId => "debug-id",
+        MapsCommand::Diff => "diff",
     }
 }
 
@@ -36,6 +37,9 @@ fn clash_text(clash: Clash) -> &'static str {
         Clash::NoContents => "contents needs --add or --drop",
         Clash::PrefixStrip => "--source-prefix and --strip-common at once",
         Clash::NoRename => "rename needs --source-prefix or --strip-common",
+        Clash::NotTwo => "diff needs OLD and NEW, two maps or two folders",
+        Clash::DiffFormat => "diff writes text, json or markdown",
+        Clash::LintFormat => "lint writes no markdown",
     }
 }
 

@@ -14,6 +14,7 @@ pub const OPTIONS: [OptionRow; 19] = [
             tidy: true,
             flatten: true,
             repair: true,
+            diff: true,
             ..NO_COMMANDS
         },
         help: "A map's URL is URL/ and its path below the folder, instead of the file: URL of the file",
@@ -166,12 +167,13 @@ pub const OPTIONS: [OptionRow; 19] = [
         name: "format",
         value: Value::Format,
         value_name: "FORMAT",
-        expected: "text, gnu, github, sarif, junit or json",
+        expected: "text, gnu, github, sarif, junit, json or markdown",
         commands: Commands {
             lint: true,
+            diff: true,
             ..NO_COMMANDS
         },
-        help: "Write findings as text, gnu, github, sarif, junit or json",
+        help: "Write findings as text, gnu, github, sarif, junit or json; differences as text, json or markdown",
         ..FLAG
     },
     OptionOf {

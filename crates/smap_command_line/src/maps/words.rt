@@ -141,6 +141,7 @@ fn command_in(name: &str) -> Option<MapsCommand>
         "contents" => Some(MapsCommand::Contents),
         "rename" => Some(MapsCommand::Rename),
         "debug-id" => Some(MapsCommand::DebugId),
+        "diff" => Some(MapsCommand::Diff),
         _ => None,
     }
 }

@@ -50,11 +50,13 @@ pub const OPTIONS: [OptionRow; 6] = [
         name: "budget",
         value: Value::File,
         value_name: "FILE",
-        expected: "the name of a file",
-        help: "Write no page, but fail where sources have more bytes than FILE allows",
-        details: "It holds a JSON object. Each of its names is part of URLs of sources, and its number \
+        expected: "the name of a file, or a growth",
+        help: "Write no page, but fail where sources have more bytes than FILE allows, or than OLD and +5% or +10KB",
+        details: "FILE holds a JSON object. Each of its names is part of URLs of sources, and its number \
                   is the most bytes that all of these may have together, in all scripts that are \
-                  looked at. The empty name stands for the whole scripts. The status is 1 then, and \
+                  looked at. The empty name stands for the whole scripts. With --compare a text that begins \
+                  with + is a growth in place of FILE: so much more than OLD the whole scripts may have, in \
+                  hundredths (%), bytes, KB of 1,000 or MB of 1,000,000. The status is 1 then, and \
                   without --sizes nothing else is written.",
         ..FLAG
     },

@@ -1,33 +1,34 @@
 //! What is counted of scripts.
-use crate::loading::{Content, Loaded};
+use crate::amounts::{Amounts, Row};
+use crate::measuring::{Sizes, measured};
 use smap_record::SourceMap;
-use smap_view_page::{Amounts, Row, Sizes, measured};
 use std::alloc::{AllocError, Global};
 
 /// What was measured of a script.
 #[derive(Drop)]
-pub(crate) struct Measures {
+pub struct Measures {
     /// The bytes of its code, and its mappings.
-    pub(crate) sizes: Sizes,
+    pub sizes: Sizes,
     /// How many bytes the comment has that holds its map.
-    pub(crate) comment: u64,
+    pub comment: u64,
     /// How many bytes there are.
-    pub(crate) all: u64,
+    pub all: u64,
 }
 
 /// What has bytes of a script.
 #[derive(Drop)]
-pub(crate) struct Part {
+pub struct Part {
     /// The URL of a source, or what it is called.
-    pub(crate) name: String,
+    pub name: String,
     /// Whether it is a source that has a URL.
-    pub(crate) is_source: bool,
+    pub is_source: bool,
     /// The number of the script.
-    pub(crate) script: usize,
-    pub(crate) amounts: Amounts,
+    pub script: usize,
+    pub amounts: Amounts,
 }
 
-fn nothing(alloc: Global) -> Measures {
+/// What is measured where there is no map.
+pub fn unmeasured(alloc: Global) -> Measures {
     Measures {
         sizes: Sizes {
             bytes: Vec::new(alloc),
@@ -38,13 +39,18 @@ fn nothing(alloc: Global) -> Measures {
     }
 }
 
-/// Measures a script. Of a refused map nothing is counted.
-pub(crate) fn measures_of(alloc: Global, loaded: &Loaded) -> Result<Measures, AllocError> {
-    let Content::Map(map, text) = &loaded.content else {
-        return Ok(nothing(alloc));
-    };
-    let text = text.as_str();
-    let code = match text.split_at_checked(loaded.code) {
+/// Measures a script, of which so many bytes stand before the comment that holds its map.
+///
+/// # Errors
+///
+/// `AllocError`.
+pub fn measured_script(
+    alloc: Global,
+    map: &SourceMap,
+    text: &str,
+    code: usize,
+) -> Result<Measures, AllocError> {
+    let code = match text.split_at_checked(code) {
         Some((code, _)) => code,
         None => text,
     };
@@ -56,7 +62,7 @@ pub(crate) fn measures_of(alloc: Global, loaded: &Loaded) -> Result<Measures, Al
 }
 
 /// The number at a place, or 0 behind the last one.
-pub(crate) fn at(numbers: &[u64], i: usize) -> u64 {
+pub fn at(numbers: &[u64], i: usize) -> u64 {
     match numbers.get(i) {
         Some(number) => *number,
         None => 0,
@@ -90,7 +96,11 @@ fn amounts(bytes: u64, mappings: u64) -> Amounts {
 
 /// Appends what has bytes of a script: its sources, then what has no source, what has no mapping, and the
 /// comment with the map if there is one.
-pub(crate) fn push_parts(
+///
+/// # Errors
+///
+/// `AllocError`.
+pub fn push_parts(
     alloc: Global,
     parts: &mut Vec<Part>,
     map: &SourceMap,
@@ -118,7 +128,11 @@ pub(crate) fn push_parts(
 }
 
 /// The rows of parts, or those of sources alone.
-pub(crate) fn rows_of<'a>(
+///
+/// # Errors
+///
+/// `AllocError`.
+pub fn rows_of<'a>(
     alloc: Global,
     parts: &'a [Part],
     sources_alone: bool,
@@ -136,7 +150,7 @@ pub(crate) fn rows_of<'a>(
 }
 
 /// How many bytes parts have together.
-pub(crate) fn bytes_of(parts: &[Part]) -> u64 {
+pub fn bytes_of(parts: &[Part]) -> u64 {
     let mut sum: u64 = 0;
     for part in parts {
         sum = sum.saturating_add(part.amounts.bytes);
@@ -144,8 +158,17 @@ pub(crate) fn bytes_of(parts: &[Part]) -> u64 {
     sum
 }
 
+/// How many bytes parts of the build that another one is compared with have together.
+pub fn old_bytes_of(parts: &[Part]) -> u64 {
+    let mut sum: u64 = 0;
+    for part in parts {
+        sum = sum.saturating_add(part.amounts.old);
+    }
+    sum
+}
+
 /// Makes the bytes of parts those of the build that another one is compared with.
-pub(crate) fn as_old(parts: &mut Vec<Part>) {
+pub fn as_old(parts: &mut Vec<Part>) {
     for part in parts {
         part.amounts.old = part.amounts.bytes;
         part.amounts.bytes = 0;

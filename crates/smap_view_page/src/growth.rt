@@ -1,19 +1,26 @@
-//! This build compared with another one.
+//! A build compared with another one.
+use crate::amounts::{Row, summed};
+use crate::markdown::push_cells;
+use crate::nesting::folders;
 use crate::parts::{Part, rows_of};
-use crate::sizing::{json_line, shown};
+use crate::shares::by_growth;
 use serde_json::{Map, Value, json};
-use smap_command_line::view::SizesForm;
-use smap_view_page::{Row, by_growth, folders, summed};
+use smap_system::printable;
 use std::alloc::{AllocError, Global};
 
 /// The parts of two builds.
 #[derive(Clone, Copy)]
-pub(crate) struct Builds<'a> {
+pub struct Builds<'a> {
     /// What the other one is called.
-    pub(crate) name: &'a str,
+    pub name: &'a str,
     /// Its parts, whose bytes count as old ones.
-    pub(crate) old: &'a [Part],
-    pub(crate) new: &'a [Part],
+    pub old: &'a [Part],
+    pub new: &'a [Part],
+}
+
+/// A name as a person sees it.
+fn shown(alloc: Global, name: &str) -> Result<String, AllocError> {
+    printable(alloc, name.as_bytes())
 }
 
 /// The rows of both builds, or those of sources alone.
@@ -151,7 +158,25 @@ fn heading(alloc: Global, given: &str, name: &str, rows: &[Row<'_>]) -> Result<S
     format!(in alloc; "{total}: {name} has {old}\n")
 }
 
-fn table(alloc: Global, given: &str, builds: Builds<'_>) -> Result<String, AllocError> {
+/// A value in one line. Names come from strangers: a character that a terminal may take for something else
+/// than what it shows stands in a string, where `printable` escapes it as JSON does.
+///
+/// # Errors
+///
+/// `AllocError`.
+pub fn json_line(alloc: Global, value: &Value) -> Result<String, AllocError> {
+    let text = value.to_string(alloc)?;
+    let mut text = printable(alloc, text.as_bytes())?;
+    text.push('\n')?;
+    Ok(text)
+}
+
+/// The growth for people.
+///
+/// # Errors
+///
+/// `AllocError`.
+pub fn growth_table(alloc: Global, given: &str, builds: Builds<'_>) -> Result<String, AllocError> {
     let rows = grown(alloc, builds, false)?;
     let mut text = heading(alloc, given, builds.name, &rows)?;
     push_rows(alloc, &mut text, &rows, "source")?;
@@ -176,7 +201,12 @@ fn push_fields(alloc: Global, text: &mut String, row: &Row<'_>) -> Result<(), Al
     text.push_str(line.as_str())
 }
 
-fn tsv(alloc: Global, builds: Builds<'_>) -> Result<String, AllocError> {
+/// The growth of each source as TSV.
+///
+/// # Errors
+///
+/// `AllocError`.
+pub fn growth_tsv(alloc: Global, builds: Builds<'_>) -> Result<String, AllocError> {
     let rows = grown(alloc, builds, false)?;
     let mut text = String::new(alloc);
     for row in &rows {
@@ -250,7 +280,11 @@ fn put_growth(
 }
 
 /// The growth of sources, of folders and of what belongs to no source, as JSON.
-pub(crate) fn growth_value(alloc: Global, builds: Builds<'_>) -> Result<Value, AllocError> {
+///
+/// # Errors
+///
+/// `AllocError`.
+pub fn growth_value(alloc: Global, builds: Builds<'_>) -> Result<Value, AllocError> {
     let (old, bytes) = bytes_in(&rows_of_both(alloc, builds, false)?);
     let growth = growth_of(old, bytes);
     let mut value = json!(in alloc;
@@ -262,16 +296,52 @@ pub(crate) fn growth_value(alloc: Global, builds: Builds<'_>) -> Result<Value, A
     Ok(value)
 }
 
-/// The growth in the form that is asked for.
-pub(crate) fn growth_sizes(
+/// Appends a row of a table in Markdown, unless nothing has changed.
+fn push_markdown_row(
     alloc: Global,
-    form: SizesForm,
-    given: &str,
-    builds: Builds<'_>,
-) -> Result<String, AllocError> {
-    match form {
-        SizesForm::Table => table(alloc, given, builds),
-        SizesForm::Tsv => tsv(alloc, builds),
-        SizesForm::Json => json_line(alloc, &growth_value(alloc, builds)?),
+    text: &mut String,
+    row: &Row<'_>,
+    what: &str,
+) -> Result<(), AllocError> {
+    let (old, bytes) = (row.amounts.old, row.amounts.bytes);
+    if old == bytes {
+        return Ok(());
     }
+    let growth = growth_text(alloc, old, bytes)?;
+    let growth = growth.as_str();
+    let front = format!(in alloc; "| {old} | {bytes} | {growth} | {what} ")?;
+    text.push_str(front.as_str())?;
+    push_cells(alloc, text, &[row.name])
+}
+
+/// Appends the rows that have changed to a table in Markdown.
+fn push_markdown_rows(
+    alloc: Global,
+    text: &mut String,
+    rows: &[Row<'_>],
+    what: &str,
+) -> Result<(), AllocError> {
+    for row in rows {
+        push_markdown_row(alloc, text, row, what)?;
+    }
+    Ok(())
+}
+
+/// The growth as a table in Markdown, sources and then folders.
+///
+/// # Errors
+///
+/// `AllocError`.
+pub fn growth_markdown(alloc: Global, builds: Builds<'_>) -> Result<String, AllocError> {
+    let rows = grown(alloc, builds, false)?;
+    let folders = grown_folders(alloc, builds)?;
+    let (old, bytes) = bytes_in(&rows);
+    let growth = growth_text(alloc, old, bytes)?;
+    let growth = growth.as_str();
+    let mut text = format!(in alloc;
+        "| old | bytes | growth | | name |\n|---:|---:|---:|---|---|\n| {old} | {bytes} | {growth} | all | |\n"
+    )?;
+    push_markdown_rows(alloc, &mut text, &rows, "source")?;
+    push_markdown_rows(alloc, &mut text, &folders, "folder")?;
+    Ok(text)
 }

@@ -1,0 +1,49 @@
+-- Steps of walks over the numbers of mappings.
+use Rattle.std.proofs.Common.{◌≡◌, ◌∙◌, ℕ, ◌+◌, ◌<◌, ◌≤◌, Bool, true, List, ◌∷◌, length, take, drop, get_or}
+use Rattle.std.proofs.Common.{Option, Some, cond, refl, arith, add-one, zero-add, not, length-take, filter, find}
+use Rattle.std.proofs.Common.{false}
+use Rattle.std.specs.List.{range_with_len}
+use Rattle.std.proofs.Math.Seq.{drop-cons}
+use Rattle.std.proofs.lemmas.List.FromFn.{get_or-range_with_len, length-range_with_len}
+use Rattle.std.proofs.lemmas.List.Filters.{length-filter_more, length-filter_both}
+
+within : (n i : ℕ) → i < n → i < length (range_with_len 0 n)
+within n i h = rw (length-range_with_len 0 n) h
+
+number_at : (n i : ℕ) → i < n → get_or (range_with_len 0 n) i 0 ≡ i
+number_at n i h = get_or-range_with_len 0 n i 0 h ∙ zero-add i
+
+pub filter_next : (p : ℕ → Bool) (n i : ℕ) → i < n
+    → length (filter p (take (i + 1) (range_with_len 0 n)))
+    ≡ length (filter p (take i (range_with_len 0 n))) + cond (p i) 1 0
+filter_next p n i h =
+    rw (length-filter_more p (range_with_len 0 n) i 0 (within n i h), number_at n i h) refl
+
+filter_length : (p : ℕ → Bool) (xs : List ℕ) → length (filter p xs) ≤ length xs
+filter_length p xs = grind (arith, length-filter_both p (λ x. not (p x)) (λ x. refl) xs)
+
+take_length : (i : ℕ) (xs : List ℕ) → length (take i xs) ≤ i
+take_length i xs = grind (arith, length-take)
+
+pub filter_bound : (p : ℕ → Bool) (xs : List ℕ) (i : ℕ) → length (filter p (take i xs)) ≤ i
+filter_bound p xs i = let a = filter_length p (take i xs) in let b = take_length i xs in omega arith
+
+find_cons : (p : ℕ → Bool) (x : ℕ) (xs : List ℕ) → find p (x ∷ xs) ≡ cond (p x) (Some x) (find p xs)
+find_cons p x xs = refl
+
+drop_at : (n i : ℕ) → i < n
+    → drop i (range_with_len 0 n) ≡ i ∷ drop (i + 1) (range_with_len 0 n)
+drop_at n i h = rw (add-one i) (drop-cons (range_with_len 0 n) i 0 (within n i h)
+    ∙ rw (number_at n i h) refl)
+
+find_next : (p : ℕ → Bool) (n i : ℕ) → i < n → find p (drop i (range_with_len 0 n))
+    ≡ cond (p i) (Some i) (find p (drop (i + 1) (range_with_len 0 n)))
+find_next p n i h = rw (drop_at n i h) (find_cons p i (drop (i + 1) (range_with_len 0 n)))
+
+pub find_here : (p : ℕ → Bool) (n i : ℕ) → i < n → true ≡ p i
+    → find p (drop i (range_with_len 0 n)) ≡ Some i
+find_here p n i h e = rw (find_next p n i h, ← e) refl
+
+pub find_later : (p : ℕ → Bool) (n i : ℕ) → i < n → false ≡ p i
+    → find p (drop i (range_with_len 0 n)) ≡ find p (drop (i + 1) (range_with_len 0 n))
+find_later p n i h e = rw (find_next p n i h, ← e) refl
