@@ -29,7 +29,7 @@ complete -c smap-maps -n 'not __fish_seen_subcommand_from check tidy flatten lin
 complete -c smap-maps -n 'not __fish_seen_subcommand_from check tidy flatten lint repair extract comment inline outline contents rename debug-id diff' -a tidy -d 'Name each map that is not in canonical form'
 complete -c smap-maps -n 'not __fish_seen_subcommand_from check tidy flatten lint repair extract comment inline outline contents rename debug-id diff' -a flatten -d 'Name each map that is not a flat map'
 complete -c smap-maps -n 'not __fish_seen_subcommand_from check tidy flatten lint repair extract comment inline outline contents rename debug-id diff' -a lint -d 'Say why maps do not work'
-complete -c smap-maps -n 'not __fish_seen_subcommand_from check tidy flatten lint repair extract comment inline outline contents rename debug-id diff' -a repair -d 'Mend maps that a few bytes make invalid'
+complete -c smap-maps -n 'not __fish_seen_subcommand_from check tidy flatten lint repair extract comment inline outline contents rename debug-id diff' -a repair -d 'Mend maps that a few bytes spoil'
 complete -c smap-maps -n 'not __fish_seen_subcommand_from check tidy flatten lint repair extract comment inline outline contents rename debug-id diff' -a extract -d 'Write the contents of sources as files'
 complete -c smap-maps -n 'not __fish_seen_subcommand_from check tidy flatten lint repair extract comment inline outline contents rename debug-id diff' -a comment -d 'Set or remove the comment that names a map'
 complete -c smap-maps -n 'not __fish_seen_subcommand_from check tidy flatten lint repair extract comment inline outline contents rename debug-id diff' -a inline -d 'Put the map of a script into its comment'

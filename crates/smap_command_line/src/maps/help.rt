@@ -20,7 +20,7 @@ Works on source maps: files, and each *.map in folders and below them; some comm
   tidy        Name each map that isn't in canonical form
   flatten     Name each map that isn't a flat map as smap writes it
   lint        Say why maps don't work: of each script and each map of a build, what is wrong
-  repair      Name each refused map that a few bytes void, with what would mend it
+  repair      Name each refused map that a few bytes spoil, with what would mend it
   extract     Write the contents of sources that maps hold as files
   comment     Set or remove the comment by which a script names its map
   inline      Put the map of a script into its comment
