@@ -10,7 +10,7 @@ complete -c smap-maps -n '__fish_seen_subcommand_from tidy flatten contents' -l 
 complete -c smap-maps -n '__fish_seen_subcommand_from contents' -l add -d 'Put the files of sources into sourcesContent'
 complete -c smap-maps -n '__fish_seen_subcommand_from contents' -x -l only -d 'Leave all other sources as they are'
 complete -c smap-maps -n '__fish_seen_subcommand_from contents' -x -l except -d 'Leave these sources as they are'
-complete -c smap-maps -n '__fish_seen_subcommand_from rename' -x -l source-prefix -d 'Write TO in place of FROM, with which sources begin'
+complete -c smap-maps -n '__fish_seen_subcommand_from rename' -x -l source-prefix -d 'Write TO for FROM where a source begins with it'
 complete -c smap-maps -n '__fish_seen_subcommand_from rename' -l strip-common -d 'Leave out the folder that all sources of a map are in'
 complete -c smap-maps -n '__fish_seen_subcommand_from tidy flatten' -l diff -d 'Show which members would change'
 complete -c smap-maps -n '__fish_seen_subcommand_from check tidy flatten' -l json -d 'Write a line of JSON for each map'

@@ -59,5 +59,7 @@ is_command_of c command.Extract = c.extract
 is_command_of c command.Comment = c.comment
 is_command_of c command.Inline = c.inline
 is_command_of c command.Outline = c.outline
+is_command_of c command.Contents = c.contents
+is_command_of c command.Rename = c.rename
 is_command_of c command.DebugId = c.debug_id
 is_command_of c command.Diff = c.diff

@@ -7,6 +7,10 @@
 //! Case is folded for ASCII letters alone: names that differ in the case of others, or in the normal form of
 //! Unicode, are two. Contracts say which paths there are, and nothing of what is written to a disk, which isn't
 //! the program's alone: who owns the folder can exchange a folder in it between two calls.
+//!
+//! In a map the sources get other beginnings, and the list of contents more or fewer ([`change_sources`]). Only
+//! the bytes of these change, and the new text is read back before it is written: contracts say that all other
+//! bytes stay, and which sources the new map lists.
 #![tactic(auto)]
 
 mod changing;

@@ -43,7 +43,7 @@ Works on source maps: files, and each *.map in folders and below them; some comm
   --except PATTERN
                   Leave these sources as they are (contents)
   --source-prefix FROM=TO
-                  Write TO in place of FROM, with which sources begin (rename)
+                  Write TO for FROM where a source begins with it (rename)
   --strip-common  Leave out the folder that all sources of a map are in (rename)
   --diff          Show which members would change (tidy, flatten)
   --json          Write a line of JSON for each map (check, tidy, flatten)

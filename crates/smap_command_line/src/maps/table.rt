@@ -75,6 +75,7 @@ pub const OPTIONS: [OptionRow; 19] = [
             ..NO_COMMANDS
         },
         help: "Rewrite those too that lose a member, such as debugId, naming each; take contents out",
+        details: "A content becomes null, and with the last one the list goes.",
         ..FLAG
     },
     OptionOf {
@@ -84,8 +85,8 @@ pub const OPTIONS: [OptionRow; 19] = [
             ..NO_COMMANDS
         },
         help: "Put the files of sources into sourcesContent",
-        details: "They are below the map's folder, or where a source is relative to the map, in UTF-8, \
-                  and reached over no link. A source that has a content keeps it.",
+        details: "They are below the map's folder, or where a source relative to the map says, in UTF-8, \
+                  and no link leads to them. A source that has a content keeps it.",
         ..FLAG
     },
     OptionOf {
@@ -98,8 +99,7 @@ pub const OPTIONS: [OptionRow; 19] = [
             ..NO_COMMANDS
         },
         help: "Leave all other sources as they are",
-        details: "A pattern is a source as the map writes it, where * stands for any characters. May be \
-                  given several times.",
+        details: "A pattern is a source as the map writes it, with * for any characters.",
         ..FLAG
     },
     OptionOf {
@@ -124,7 +124,7 @@ pub const OPTIONS: [OptionRow; 19] = [
             rename: true,
             ..NO_COMMANDS
         },
-        help: "Write TO in place of FROM, with which sources begin",
+        help: "Write TO for FROM where a source begins with it",
         details: "Of several the first that fits counts.",
         ..FLAG
     },
