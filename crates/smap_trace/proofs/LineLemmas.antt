@@ -6,7 +6,7 @@ use Rattle.smap_io.specs.Lines.{IsWhole, TakesAll}
 use Rattle.smap_io.proofs.LineLemmas.{lines_of-append}
 use Rattle.smap_trace.specs.declared.outcome.Counts.{Counts}
 use Rattle.smap_trace.specs.declared.streaming.Output.{Output}
-use Rattle.smap_trace.specs.declared.translated.Kept.{Kept}
+use Rattle.smap_trace.specs.declared.kept.Kept.{Kept}
 use Rattle.smap_trace.specs.Giving.{Give, count_line}
 use Rattle.smap_trace.specs.Pieces.{IsFate, TakesLine}
 use Rattle.smap_trace.specs.Translation.{Fate, line_translation_by, lines_of, translation_by, written}

@@ -16,7 +16,7 @@ use Rattle.smap_trace.specs.declared.outcome.Counts.{Counts}
 use Rattle.smap_trace.specs.declared.error.TraceError.{TraceError}
 use Rattle.smap_trace.specs.declared.error.TraceError.TheVariants as error
 use Rattle.smap_trace.specs.declared.streaming.Output.{Output}
-use Rattle.smap_trace.specs.declared.translated.Kept.{Kept}
+use Rattle.smap_trace.specs.declared.kept.Kept.{Kept}
 use Rattle.smap_trace.specs.Giving.{Give, no_counts}
 use Rattle.smap_trace.specs.Pieces.{EndsTrace, IsFate, TakesLine}
 use Rattle.smap_trace.specs.Streaming.{Gives, GivesAll, GivesBy, GivesPrefix, GivesWhole, Translates}

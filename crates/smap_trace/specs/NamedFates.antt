@@ -1,5 +1,5 @@
 -- The translation of a trace with the names of functions. This project's own rules.
-use Rattle.std.specs.Prelude.{◌≡◌, ℕ, ◌++◌, Bool, bytes_eq, if◌then◌else◌, List, IfSome}
+use Rattle.std.specs.Prelude.{◌≡◌, ℕ, ◌++◌, Bool, bytes_eq, if◌then◌else◌, List, [], IfSome}
 use Rattle.std.specs.Prelude.{Option, None, Some, option_map}
 use Rattle.std.specs.Option.{option_map_or}
 use Rattle.smap_frames.specs.Frame.{FrameParts}
@@ -14,7 +14,7 @@ use Rattle.smap_trace.specs.Views.{outcome_of}
 use Rattle.smap_trace.specs.declared.match_mode.MatchMode.{MatchMode}
 use Rattle.smap_trace.specs.declared.names.RenamedFrame.{RenamedFrame}
 use Rattle.smap_trace.specs.declared.outcome.LineOutcome.{LineOutcome}
-use Rattle.smap_trace.specs.declared.translated.Kept.{Kept}
+use Rattle.smap_trace.specs.declared.kept.Kept.{Kept}
 
 -- a frame with this around its position
 abbrev pub with_around : Around → FrameParts → FrameParts
@@ -55,6 +55,9 @@ pub record MayBecome (mode : MatchMode) (scripts : List Script) (hide : Bool) (l
 
 -- ---- what is kept while lines become that
 
+abbrev pub nothing_kept : Kept
+nothing_kept = record { functions = []; lines = [] }
+
 -- A line may become what is kept of it.
 abbrev pub AreTranslated : MatchMode → List Script → Bool → Lines → Type 0
 AreTranslated mode scripts hide lines = (line : List ℕ) (t : List ℕ × LineOutcome)
@@ -63,5 +66,5 @@ AreTranslated mode scripts hide lines = (line : List ℕ) (t : List ℕ × LineO
 
 -- What is known of a source is of its own text, and a line may become what is kept of it.
 abbrev pub AreKept : MatchMode → List Script → Bool → Kept → Type 0
-AreKept mode scripts hide kept = AreKnown mode.ignore_query scripts kept.functions
-    × AreTranslated mode scripts hide kept.lines
+AreKept mode scripts hide k = AreKnown mode.ignore_query scripts k.functions
+    × AreTranslated mode scripts hide k.lines

@@ -8,7 +8,7 @@ use Rattle.smap_trace.specs.declared.outcome.Counts.{Counts}
 use Rattle.smap_trace.specs.declared.outcome.LineOutcome.{LineOutcome}
 use Rattle.smap_trace.specs.declared.streaming.Output.{Output}
 use Rattle.smap_trace.specs.Giving.{Becomes, Give, count_line}
-use Rattle.smap_trace.specs.declared.translated.Kept.{Kept}
+use Rattle.smap_trace.specs.declared.kept.Kept.{Kept}
 use Rattle.smap_trace.specs.Translation.{Fate, lines_of}
 
 -- If this held of what was kept before, it does of what is kept after, and a line became something that it

@@ -1,9 +1,8 @@
 -- What is kept of lines that were translated.
-use Rattle.std.specs.Prelude.{◌≡◌, ◌⊎◌, ℕ, List, [], bytes_eq, map, Option, Some}
+use Rattle.std.specs.Prelude.{◌≡◌, ◌⊎◌, ℕ, List, bytes_eq, map, Option, Some}
 use Rattle.std.specs.Global.{Vec}
 use Rattle.std.specs.Map.{lookup}
 use Rattle.smap_trace.specs.declared.outcome.LineOutcome.{LineOutcome}
-use Rattle.smap_trace.specs.declared.translated.Kept.{Kept}
 use Rattle.smap_trace.specs.declared.translated.TranslatedLine.{TranslatedLine}
 
 -- by the line, its translation and what became of it
@@ -20,9 +19,6 @@ line_of t = (t.text.items, t.outcome)
 
 abbrev pub lines_in : List (Vec ℕ × TranslatedLine) → Lines
 lines_in es = map (λ e. (e.0.items, line_of e.1)) es
-
-abbrev pub nothing_kept : Kept
-nothing_kept = record { functions = []; lines = [] }
 
 -- Nothing is kept that wasn't.
 abbrev pub KeepsLess : Lines → Lines → Type 0

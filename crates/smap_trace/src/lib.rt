@@ -8,6 +8,7 @@
 
 mod anywhere;
 mod error;
+mod kept;
 mod known;
 pub mod laws;
 mod line_parts;
@@ -29,6 +30,7 @@ mod translated;
 mod unnamed;
 
 pub use error::TraceError;
+pub use kept::Kept;
 pub use known::KnownFunctions;
 pub use line_parts::{LinePosition, line_positions};
 pub use line_starts::LineStarts;
@@ -45,5 +47,5 @@ pub use searching::{Positions, search};
 pub use smap_frames::{Frame, frame};
 pub use streaming::{translate, translate_by, translate_in};
 pub use table::{HasMap, Scripts};
-pub use translated::{Kept, TranslatedLines, ends_like_frames};
+pub use translated::{TranslatedLines, ends_like_frames};
 pub use unnamed::{LineMode, named_frame, translate_alone_in};

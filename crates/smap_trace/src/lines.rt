@@ -11,14 +11,14 @@ ghost use Rattle.smap_trace.specs.Pieces.{AppendsLine, IsFate};
 ghost use Rattle.smap_trace.specs.Translation as spec;
 ghost use Rattle.smap_trace.specs.Translation.{AreDistinct, Fate};
 ghost use Rattle.smap_trace.specs.Views.{outcome_of, scripts_in};
-ghost use Rattle.smap_trace.specs.declared.translated.Kept.{Kept as SpecKept};
+ghost use Rattle.smap_trace.specs.declared.kept.Kept.{Kept as SpecKept};
 
 use crate::anywhere::push_pieces;
+use crate::kept::Kept;
 use crate::lookups::origin_at;
 use crate::match_mode::MatchMode;
 use crate::outcome::LineOutcome;
 use crate::scripts::{Listed, Maps};
-use crate::translated::Kept;
 use smap_frames::{Frame, frame, push_position};
 use smap_mappings::Memory;
 use smap_record::SourceMap;

@@ -14,13 +14,14 @@ ghost use Rattle.smap_trace.specs.Pieces.{AppendsLine};
 ghost use Rattle.smap_trace.specs.Views.{outcome_of, scripts_in};
 
 use crate::error::TraceError;
+use crate::kept::Kept;
 use crate::lines::{Translator, cut_feed, map_for, translate_found, translate_frame};
 use crate::match_mode::MatchMode;
 use crate::names::{RenamedFrame, rename_frame};
 use crate::outcome::{Counts, LineOutcome};
 use crate::scripts::{Listed, Maps};
 use crate::streaming::translate_with;
-use crate::translated::{Kept, ends_like_frames};
+use crate::translated::ends_like_frames;
 use smap_frames::{Frame, frame};
 use smap_io::Device;
 use smap_mappings::Memory;
@@ -128,8 +129,7 @@ impl<M: Maps> Naming<'_, M> {
         kept: &mut Kept,
         out: &mut Vec<u8>,
     ) -> Result<(LineOutcome, bool), AllocError>
-        ensures stays { kept.new.lines ≡ kept.old.lines }
-        ensures appends { IfOk result (λ o. AppendsLine
+        ensures { IfOk result (λ o. AppendsLine
             (MayBecome self.now.mode (M.scripts self.now.maps.now) self.now.hide)
             (AreKept self.now.mode (M.scripts self.now.maps.now) self.now.hide)
             line.now kept.old out.old.items kept.new out.new.items o.0) }
@@ -152,6 +152,27 @@ impl<M: Maps> Naming<'_, M> {
             Err(_) => Err(AllocError),
         }
     }
+
+    /// The same, and keeps it if it did.
+    fn translate_first(
+        &self,
+        line: &[u8],
+        kept: &mut Kept,
+        out: &mut Vec<u8>,
+    ) -> Result<LineOutcome, AllocError>
+        ensures { IfOk result (AppendsLine
+            (MayBecome self.now.mode (M.scripts self.now.maps.now) self.now.hide)
+            (AreKept self.now.mode (M.scripts self.now.maps.now) self.now.hide)
+            line.now kept.old out.old.items kept.new out.new.items) }
+    {
+        let mut text = Vec::new(self.alloc);
+        let (outcome, is_named) = self.translate_anew(line, kept, &mut text)?;
+        out.extend_from_slice(&text)?;
+        if is_named {
+            kept.lines.put(self.alloc, line, &text, outcome)?;
+        }
+        Ok(outcome)
+    }
 }
 
 impl<M: Maps> Translator for Naming<'_, M> {
@@ -173,12 +194,7 @@ impl<M: Maps> Translator for Naming<'_, M> {
             out.extend_from_slice(text)?;
             return Ok(outcome);
         }
-        let before = out.len();
-        let (outcome, is_named) = self.translate_anew(line, kept, out)?;
-        if is_named {
-            kept.lines.put(self.alloc, line, &out[before..], outcome)?;
-        }
-        Ok(outcome)
+        self.translate_first(line, kept, out)
     }
 }
 

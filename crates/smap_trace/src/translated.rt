@@ -1,8 +1,7 @@
 //! Translations of lines that are kept, since the frames of a log come again and again.
 ghost use Rattle.std.specs.Prelude.{◌≡◌, OnOk, [], option_map};
-ghost use Rattle.smap_trace.specs.Translated.{KeepsLess, KeepsMore, nothing_kept, translation_in};
+ghost use Rattle.smap_trace.specs.Translated.{KeepsLess, KeepsMore, line_of, translation_in};
 
-use crate::known::KnownFunctions;
 use crate::lines::cut_feed;
 use crate::outcome::LineOutcome;
 use indexmap::IndexMap;
@@ -105,27 +104,13 @@ impl TranslatedLines {
         let key = Vec::from_slice(alloc, line)?;
         let text = Vec::from_slice(alloc, text)?;
         self.make_room(key.len().saturating_add(text.len()).saturating_add(BESIDE));
-        self.lines.insert(key, TranslatedLine { text, outcome })?;
-        Ok(())
+        self.keep(key, TranslatedLine { text, outcome })
     }
-}
 
-/// What is kept while lines get the names of functions: the functions of sources, and the translations of
-/// lines.
-#[derive(Drop)]
-pub struct Kept {
-    pub functions: KnownFunctions,
-    pub lines: TranslatedLines,
-}
-
-impl Kept {
-    /// Nothing.
-    pub fn new(alloc: Global) -> Kept
-        ensures { result ≡ nothing_kept }
+    fn keep(&mut self, line: Vec<u8>, kept: TranslatedLine) -> Result<(), AllocError>
+        ensures { OnOk result (KeepsMore self.old self.new line.items (line_of kept)) }
     {
-        Kept {
-            functions: KnownFunctions::new(alloc),
-            lines: TranslatedLines::new(alloc),
-        }
+        self.lines.insert(line, kept)?;
+        Ok(())
     }
 }

@@ -15,12 +15,12 @@ ghost use Rattle.smap_trace.specs.Unnamed.{fate_alone};
 ghost use Rattle.smap_trace.specs.Views.{outcome_of};
 
 use crate::error::TraceError;
+use crate::kept::Kept;
 use crate::lines::{Translator, cut_feed, map_for, translate_found, translate_frame};
 use crate::match_mode::MatchMode;
 use crate::outcome::{Counts, LineOutcome};
 use crate::scripts::Maps;
 use crate::streaming::translate_with;
-use crate::translated::Kept;
 use smap_frames::frame;
 use smap_io::Device;
 use std::alloc::{AllocError, Global};

@@ -1,10 +1,9 @@
-use Rattle.smap_trace.proofs.NamedFateLemmas.{line_named}
+use Rattle.smap_trace.proofs.TranslatedLemmas.{kept_appended}
 use Rattle.smap_trace.proofs.named.NamingTranslator.translate.Goals as goal
 
-pub returns-in-Ok : goal.returns-in-Ok
-returns-in-Ok g c =
+pub returns-in-Some : goal.returns-in-Some
+returns-in-Some g c =
     let self = c.args.self.now in
-    line_named self.mode (g.M.Maps.scripts self.maps.now) self.hide c.args.line.now c.cut_feed.result.0.now
-    c.in-Ok.given c.args.known.now c.rename_frame.new.known c.args.out.now.items
-    c.translate_given.new.out.items c.translate_given.result c.cut_feed.ensures.text c.in-Ok.ensures.renamed
-    c.in-Ok.ensures.exact c.translate_given.ensures.ok c.translate_given.ensures.outcome
+    kept_appended self.mode (g.M.Maps.scripts self.maps.now) self.hide c.args.line.now c.args.kept.now
+    c.in-Some.text.now c.args.out.now.items c.extend_from_slice.new.self.items c.in-Some.outcome
+    c.in-Some.ensures c.in_ok-extend_from_slice.ensures.items
