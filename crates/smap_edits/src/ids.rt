@@ -18,8 +18,28 @@ use smap_record::{ReadError, map_tree};
 use std::alloc::{AllocError, Global};
 use uuid::{Builder, Uuid};
 
-/// A debug id for a script and its map: a UUID of the form of random ones, whose bytes are of the SHA-256 of
-/// the SHA-256 of both. So the same files get the same id.
+/// The SHA-256 of the SHA-256 of both.
+fn digest_of(script: &[u8], map: &[u8]) -> [u8; 32]
+    ensures { result ≡ spec.digest_of script.now map.now }
+{
+    let of_script = Sha256::digest(script);
+    let of_map = Sha256::digest(map);
+    let mut hasher = Sha256::new();
+    hasher.update(of_script);
+    hasher.update(of_map);
+    hasher.finalize()
+}
+
+/// The first bytes of a digest, as a UUID has random ones.
+fn uuid_of(digest: [u8; 32]) -> Uuid
+    ensures { result ≡ spec.uuid_of digest }
+{
+    let mut bytes = [0u8; 16];
+    bytes.copy_from_slice(&digest[..16]);
+    Builder::from_random_bytes(bytes).into_uuid()
+}
+
+/// A debug id for a script and its map, which depends on all bytes of both: the same files get the same id.
 ///
 /// # Errors
 ///
@@ -27,15 +47,7 @@ use uuid::{Builder, Uuid};
 pub fn made_id(alloc: Global, script: &[u8], map: &[u8]) -> Result<Vec<u8>, AllocError>
     ensures { IfOk result (λ id. id.items ≡ spec.made_id script.now map.now) }
 {
-    let of_script = Sha256::digest(script);
-    let of_map = Sha256::digest(map);
-    let mut hasher = Sha256::new();
-    hasher.update(&of_script);
-    hasher.update(&of_map);
-    let digest = hasher.finalize();
-    let mut bytes = [0u8; 16];
-    bytes.copy_from_slice(&digest[..16]);
-    let id = Builder::from_random_bytes(bytes).into_uuid();
+    let id = uuid_of(digest_of(script, map));
     let mut buffer = Uuid::encode_buffer();
     let text = id.hyphenated().encode_lower(&mut buffer);
     Vec::from_slice(alloc, text.as_bytes())

@@ -4,8 +4,8 @@ use crate::extracting::extract;
 use crate::linting::lint_asked;
 use smap_command_line::MapsCommand;
 use smap_command_line::maps::MapsWords;
-use smap_lint_run::lint;
 use smap_edits::{ScriptTask, edit_scripts};
+use smap_lint_run::lint;
 use smap_system::{Disk, Host, Stop, Watched};
 use std::io::Write;
 
