@@ -130,7 +130,7 @@ fn made_for(
 }
 
 /// Whether a text names its map by this URL.
-fn names(name: &[u8], text: &[u8], url: &[u8]) -> bool
+pub(crate) fn names(name: &[u8], text: &[u8], url: &[u8]) -> bool
     ensures { result ≡ true → named_by name.now text.now ≡ Some url.now }
 {
     match link_in(name, text) {

@@ -138,7 +138,7 @@ fn map_with_id(alloc: Global, map: &[u8], id: &[u8]) -> Result<Vec<u8>, Refusal>
 }
 
 /// A script and a map that get an id made of both.
-fn both_identified(
+fn identify_anew(
     alloc: Global,
     path: &str,
     text: &[u8],
@@ -156,7 +156,7 @@ fn both_identified(
 }
 
 /// A script and a map, one of which has no id at least.
-fn identified(
+fn identify(
     alloc: Global,
     path: &str,
     text: &[u8],
@@ -166,7 +166,7 @@ fn identified(
     let (script, bytes) = match (debug_id(text), of_map) {
         (Some(id), _) => (None, Some(map_with_id(alloc, &map.bytes, id)?)),
         (None, Some(id)) => (Some(with_id(alloc, path, text, id.as_bytes())?), None),
-        (None, None) => return both_identified(alloc, path, text, map),
+        (None, None) => return identify_anew(alloc, path, text, map),
     };
     Ok(Identified {
         script,
@@ -197,7 +197,7 @@ pub(crate) fn identity_of<D: Disk>(
     match are_one(debug_id(text), &of_map) {
         Some(true) => Ok(Deed::Nothing),
         Some(false) => Err(Refusal::OtherId),
-        None => Ok(Deed::Identify(identified(alloc, path, text, map, of_map)?)),
+        None => Ok(Deed::Identify(identify(alloc, path, text, map, of_map)?)),
     }
 }
 

@@ -2,13 +2,13 @@
 ghost use Rattle.std.specs.Prelude.{◌≡◌, ◌+◌, ◌≤◌, IfOk, Some, length, true};
 ghost use Rattle.std.specs.Char.{is_ascii_whitespace};
 ghost use Rattle.std.specs.List.{list_all, suffix_len};
-ghost use Rattle.smap_link.specs.Kinds.{file_kind as kind_of};
+ghost use Rattle.smap_link.specs.Kinds.{file_kind as kind_of, link_in as named_by};
 ghost use Rattle.smap_lint_rules.specs.Ids.{debug_id as id_of};
 ghost use Rattle.smap_edits.specs.Comments.{sheet_kind};
 ghost use Rattle.smap_edits.specs.Ids as spec;
 ghost use Rattle.smap_edits.specs.Ids.{HasMapId, IsBehindCode, IsIdSet, IsMapIdSet};
 
-use crate::comments::{CommentFault, Edited, framed};
+use crate::comments::{CommentFault, Edited, framed, names};
 use crate::finding::place_of;
 use crate::places::Place;
 use sha2::{Digest, Sha256};
@@ -116,6 +116,16 @@ fn has_id(text: &[u8], id: &[u8]) -> bool
     }
 }
 
+/// Whether two texts of a script name one map.
+fn same_link(name: &[u8], one: &[u8], other: &[u8]) -> bool
+    ensures { result ≡ true → named_by name.now one.now ≡ named_by name.now other.now }
+{
+    match link_in(name, other) {
+        Some(url) => names(name, one, url),
+        None => link_in(name, one).is_none(),
+    }
+}
+
 /// The text of a script or a style sheet, by its name, with this id in a comment behind all code.
 ///
 /// # Errors
@@ -134,7 +144,7 @@ pub fn set_debug_id(
     let made = framed(alloc, &text[..at], true, &comment)?;
     let place = Place { at, size: 0 };
     let new = place.replaced(alloc, text, &made)?;
-    if has_id(&new, id) && link_in(name, &new) == link_in(name, text) {
+    if has_id(&new, id) && same_link(name, &new, text) {
         Ok(Edited {
             at,
             size: 0,
