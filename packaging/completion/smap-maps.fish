@@ -36,7 +36,7 @@ complete -c smap-maps -n 'not __fish_seen_subcommand_from check tidy flatten lin
 complete -c smap-maps -n 'not __fish_seen_subcommand_from check tidy flatten lint repair extract comment inline outline contents rename debug-id diff' -a outline -d 'Put the map within a script into a file'
 complete -c smap-maps -n 'not __fish_seen_subcommand_from check tidy flatten lint repair extract comment inline outline contents rename debug-id diff' -a contents -d 'Put the contents of sources into maps or take them out'
 complete -c smap-maps -n 'not __fish_seen_subcommand_from check tidy flatten lint repair extract comment inline outline contents rename debug-id diff' -a rename -d 'Give the sources of maps other beginnings'
-complete -c smap-maps -n 'not __fish_seen_subcommand_from check tidy flatten lint repair extract comment inline outline contents rename debug-id diff' -a debug-id -d 'Give scripts and their maps debug ids'
+complete -c smap-maps -n 'not __fish_seen_subcommand_from check tidy flatten lint repair extract comment inline outline contents rename debug-id diff' -a debug-id -d 'Give a script and its map one debug ID'
 complete -c smap-maps -n 'not __fish_seen_subcommand_from check tidy flatten lint repair extract comment inline outline contents rename debug-id diff' -a diff -d 'Compare the maps of two builds'
 
 complete -c smap-maps -n '__fish_seen_subcommand_from check tidy flatten lint repair extract comment inline outline contents rename debug-id diff' -k -a '(__fish_complete_suffix .map)'

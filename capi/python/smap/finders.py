@@ -271,7 +271,8 @@ class Folders:
         """All scripts that may have a map."""
         yield from self._files
         for folder in self._folders:
-            for name in _names(folder, None):
+            # a name of a map alone may be that of no script
+            for name in sorted(_names(folder, None), key=lambda it: (not may_name_map(it.decode()), it)):
                 yield folder.key + name.decode()
 
     def _debug_id(self, script: str) -> Optional[str]:

@@ -196,7 +196,7 @@ class Store:
         A finder needs a method `by_debug_id` for it, as `Folders` has it, which reads all maps once.
         """
         if not hasattr(self._finder, "by_debug_id"):
-            raise ValueError("a finder needs a method by_debug_id")
+            raise ValueError("by_debug_id needs a finder with a method by_debug_id")
         script: Optional[str] = getattr(self._finder, "by_debug_id")(debug_id)
         return script
 

@@ -15,10 +15,15 @@ use Rattle.smap_record.specs.Reading.{map_tree}
 use Rattle.smap_edits.specs.Comments.{IsFramed, IsPlace, replaced, sheet_kind}
 use Rattle.smap_edits.specs.declared.comments.Edited.{Edited}
 
--- the digest of both contents, as a UUID of random bytes
+abbrev pub digest_of : List ℕ → List ℕ → List ℕ
+digest_of script map = sha256 (sha256 script ++ sha256 map)
+
+-- the first bytes of a digest, as a UUID has random ones
+abbrev pub uuid_of : List ℕ → List ℕ
+uuid_of digest = with_version (with_variant (take 16 digest) variant.RFC4122) version.Random
+
 abbrev pub made_id : List ℕ → List ℕ → List ℕ
-made_id script map = hyphenated_text lower
-    (with_version (with_variant (take 16 (sha256 (sha256 script ++ sha256 map))) variant.RFC4122) version.Random)
+made_id script map = hyphenated_text lower (uuid_of (digest_of script map))
 
 -- ---- a script
 

@@ -99,7 +99,12 @@ fn frame(text: &[u8]) -> (&'static [u8], &'static [u8])
 }
 
 /// The comment, between line ends if it is a new one at the end of the text.
-pub(crate) fn framed(alloc: Global, text: &[u8], is_new: bool, comment: &[u8]) -> Result<Vec<u8>, AllocError>
+pub(crate) fn framed(
+    alloc: Global,
+    text: &[u8],
+    is_new: bool,
+    comment: &[u8],
+) -> Result<Vec<u8>, AllocError>
     ensures { IfOk result (λ made. IsFramed made.items comment.now) }
 {
     let (lead, tail): (&[u8], &[u8]) = if is_new { frame(text) } else { (b"", b"") };
@@ -125,7 +130,7 @@ fn made_for(
 }
 
 /// Whether a text names its map by this URL.
-fn names(name: &[u8], text: &[u8], url: &[u8]) -> bool
+pub(crate) fn names(name: &[u8], text: &[u8], url: &[u8]) -> bool
     ensures { result ≡ true → named_by name.now text.now ≡ Some url.now }
 {
     match link_in(name, text) {

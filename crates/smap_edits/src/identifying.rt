@@ -110,7 +110,9 @@ fn id_in_map(alloc: Global, map: &[u8]) -> Result<Option<String>, Refusal> {
 
 /// Whether an id can be copied: it has nothing but letters, digits and hyphens.
 fn is_plain(id: &[u8]) -> bool {
-    !id.is_empty() && id.len() <= LONGEST && id.iter().all(|b| b.is_ascii_alphanumeric() || *b == b'-')
+    !id.is_empty()
+        && id.len() <= LONGEST
+        && id.iter().all(|b| b.is_ascii_alphanumeric() || *b == b'-')
 }
 
 /// Refuses an id that can't be copied into a file of this size.
@@ -136,7 +138,7 @@ fn map_with_id(alloc: Global, map: &[u8], id: &[u8]) -> Result<Vec<u8>, Refusal>
 }
 
 /// A script and a map that get an id made of both.
-fn both_identified(
+fn identify_anew(
     alloc: Global,
     path: &str,
     text: &[u8],
@@ -154,7 +156,7 @@ fn both_identified(
 }
 
 /// A script and a map, one of which has no id at least.
-fn identified(
+fn identify(
     alloc: Global,
     path: &str,
     text: &[u8],
@@ -164,7 +166,7 @@ fn identified(
     let (script, bytes) = match (debug_id(text), of_map) {
         (Some(id), _) => (None, Some(map_with_id(alloc, &map.bytes, id)?)),
         (None, Some(id)) => (Some(with_id(alloc, path, text, id.as_bytes())?), None),
-        (None, None) => return both_identified(alloc, path, text, map),
+        (None, None) => return identify_anew(alloc, path, text, map),
     };
     Ok(Identified {
         script,
@@ -172,6 +174,14 @@ fn identified(
         file: map.path,
         stamp: map.stamp,
     })
+}
+
+/// Whether both ids are one, if both are there.
+fn are_one(of_script: Option<&[u8]>, of_map: &Option<String>) -> Option<bool> {
+    match (of_script, of_map) {
+        (Some(one), Some(other)) => Some(same_id(one, other.as_bytes())),
+        _ => None,
+    }
 }
 
 /// What becomes of a script at this path, with this text, and of its map.
@@ -184,14 +194,11 @@ pub(crate) fn identity_of<D: Disk>(
     check_own(alloc, disk, path)?;
     let map = map_file(alloc, disk, path, text)?;
     let of_map = id_in_map(alloc, &map.bytes)?;
-    if let (Some(one), Some(other)) = (debug_id(text), &of_map) {
-        return if same_id(one, other.as_bytes()) {
-            Ok(Deed::Nothing)
-        } else {
-            Err(Refusal::OtherId)
-        };
+    match are_one(debug_id(text), &of_map) {
+        Some(true) => Ok(Deed::Nothing),
+        Some(false) => Err(Refusal::OtherId),
+        None => Ok(Deed::Identify(identify(alloc, path, text, map, of_map)?)),
     }
-    Ok(Deed::Identify(identified(alloc, path, text, map, of_map)?))
 }
 
 /// Writes the map, and then the script, which was this when it was read.

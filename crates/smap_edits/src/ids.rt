@@ -2,13 +2,13 @@
 ghost use Rattle.std.specs.Prelude.{◌≡◌, ◌+◌, ◌≤◌, IfOk, Some, length, true};
 ghost use Rattle.std.specs.Char.{is_ascii_whitespace};
 ghost use Rattle.std.specs.List.{list_all, suffix_len};
-ghost use Rattle.smap_link.specs.Kinds.{file_kind as kind_of};
+ghost use Rattle.smap_link.specs.Kinds.{file_kind as kind_of, link_in as named_by};
 ghost use Rattle.smap_lint_rules.specs.Ids.{debug_id as id_of};
 ghost use Rattle.smap_edits.specs.Comments.{sheet_kind};
 ghost use Rattle.smap_edits.specs.Ids as spec;
 ghost use Rattle.smap_edits.specs.Ids.{HasMapId, IsBehindCode, IsIdSet, IsMapIdSet};
 
-use crate::comments::{CommentFault, Edited, framed};
+use crate::comments::{CommentFault, Edited, framed, names};
 use crate::finding::place_of;
 use crate::places::Place;
 use sha2::{Digest, Sha256};
@@ -18,8 +18,28 @@ use smap_record::{ReadError, map_tree};
 use std::alloc::{AllocError, Global};
 use uuid::{Builder, Uuid};
 
-/// A debug id for a script and its map: a UUID of the form of random ones, whose bytes are of the SHA-256 of
-/// the SHA-256 of both. So the same files get the same id.
+/// The SHA-256 of the SHA-256 of both.
+fn digest_of(script: &[u8], map: &[u8]) -> [u8; 32]
+    ensures { result ≡ spec.digest_of script.now map.now }
+{
+    let of_script = Sha256::digest(script);
+    let of_map = Sha256::digest(map);
+    let mut hasher = Sha256::new();
+    hasher.update(of_script);
+    hasher.update(of_map);
+    hasher.finalize()
+}
+
+/// The first bytes of a digest, as a UUID has random ones.
+fn uuid_of(digest: [u8; 32]) -> Uuid
+    ensures { result ≡ spec.uuid_of digest }
+{
+    let mut bytes = [0u8; 16];
+    bytes.copy_from_slice(&digest[..16]);
+    Builder::from_random_bytes(bytes).into_uuid()
+}
+
+/// A debug id for a script and its map, which depends on all bytes of both: the same files get the same id.
 ///
 /// # Errors
 ///
@@ -27,15 +47,7 @@ use uuid::{Builder, Uuid};
 pub fn made_id(alloc: Global, script: &[u8], map: &[u8]) -> Result<Vec<u8>, AllocError>
     ensures { IfOk result (λ id. id.items ≡ spec.made_id script.now map.now) }
 {
-    let of_script = Sha256::digest(script);
-    let of_map = Sha256::digest(map);
-    let mut hasher = Sha256::new();
-    hasher.update(&of_script);
-    hasher.update(&of_map);
-    let digest = hasher.finalize();
-    let mut bytes = [0u8; 16];
-    bytes.copy_from_slice(&digest[..16]);
-    let id = Builder::from_random_bytes(bytes).into_uuid();
+    let id = uuid_of(digest_of(script, map));
     let mut buffer = Uuid::encode_buffer();
     let text = id.hyphenated().encode_lower(&mut buffer);
     Vec::from_slice(alloc, text.as_bytes())
@@ -104,6 +116,16 @@ fn has_id(text: &[u8], id: &[u8]) -> bool
     }
 }
 
+/// Whether two texts of a script name one map.
+fn same_link(name: &[u8], one: &[u8], other: &[u8]) -> bool
+    ensures { result ≡ true → named_by name.now one.now ≡ named_by name.now other.now }
+{
+    match link_in(name, other) {
+        Some(url) => names(name, one, url),
+        None => link_in(name, one).is_none(),
+    }
+}
+
 /// The text of a script or a style sheet, by its name, with this id in a comment behind all code.
 ///
 /// # Errors
@@ -122,7 +144,7 @@ pub fn set_debug_id(
     let made = framed(alloc, &text[..at], true, &comment)?;
     let place = Place { at, size: 0 };
     let new = place.replaced(alloc, text, &made)?;
-    if has_id(&new, id) && link_in(name, &new) == link_in(name, text) {
+    if has_id(&new, id) && same_link(name, &new, text) {
         Ok(Edited {
             at,
             size: 0,

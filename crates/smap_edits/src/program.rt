@@ -70,9 +70,7 @@ fn rewrite<E: Eprint + AllocGlobal, D: Disk>(
         Deed::Text(text) => Ok(replace_file(alloc, disk, path, Some(stamp), text)?),
         Deed::Outline(outlined) => {
             write_map(alloc, disk, outlined)?;
-            Ok(replace_file(
-                alloc, disk, path, Some(stamp), &outlined.text,
-            )?)
+            Ok(replace_file(alloc, disk, path, Some(stamp), &outlined.text)?)
         }
         Deed::Identify(identified) => write_both(alloc, disk, path, stamp, identified),
     }
