@@ -1,3 +1,4 @@
 pub mod PathLemmas
 pub mod PlaceLemmas
+pub mod RenameLemmas
 pub mod SafeLemmas

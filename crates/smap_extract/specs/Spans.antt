@@ -3,7 +3,7 @@ use Rattle.std.specs.Prelude.{◌≡◌, ℕ, ◌-◌, List, [], ◌∷◌, ◌+
 use Rattle.smap_extract.specs.declared.spans.Edit.{Edit}
 
 -- The text from a place on, with the bytes in these ranges replaced, one after another: all others stay.
-unfoldable pub spliced : List ℕ → ℕ → List Edit → List ℕ
+abbrev pub spliced : List ℕ → ℕ → List Edit → List ℕ
 spliced text at [] = drop at text
 spliced text at (e ∷ es) =
     take (e.span.start - at) (drop at text) ++ (e.made.items ++ spliced text e.span.end es)

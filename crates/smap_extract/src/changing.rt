@@ -18,6 +18,8 @@ use std::alloc::{AllocError, Global};
 /// A map that was read.
 #[derive(Drop)]
 pub struct MapRead<'a> {
+    /// Its own URL.
+    pub url: &'a [u8],
     pub base: &'a Base,
     /// How many bytes the URLs of its sources may take.
     pub url_bytes: usize,
@@ -124,7 +126,7 @@ fn edits_of(
 
 /// The text with these edits, which may not be too long.
 fn edited(alloc: Global, text: &[u8], edits: &[Edit]) -> Result<Vec<u8>, SourcesFault>
-    ensures { IfOk result (IsSpliced text.now) }
+    ensures { IfOk result (λ new. IsSpliced text.now new.items) }
 {
     match spliced(alloc, text, edits)? {
         Some(new) if new.len() as u64 > LIMIT => Err(SourcesFault::TooLong),

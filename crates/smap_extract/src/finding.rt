@@ -1,7 +1,7 @@
 //! The files of sources.
+use crate::changing::MapRead;
 use crate::patterns::Meant;
 use smap_link::{PathFault, file_path};
-use smap_record::{SourceMap, WrittenSources};
 use smap_system::{Disk, FileFault, Kind, LIMIT, parted, read_file};
 use std::alloc::{AllocError, Global};
 use std::io::ErrorKind;
@@ -149,16 +149,15 @@ fn folder_of(alloc: Global, url: &[u8]) -> Result<String, AllocError> {
     }
 }
 
-/// What the files hold of those sources of a map that are meant and have no content. The map has this URL.
+/// What the files hold of those sources of a map that are meant and have no content.
 pub(crate) fn find_contents<D: Disk>(
     alloc: Global,
     disk: &D,
-    url: &[u8],
-    map: &SourceMap,
-    written: &WrittenSources,
+    read: &MapRead<'_>,
     meant: &Meant<'_>,
 ) -> Result<Found, FileFault> {
-    let Ok(folder) = folder_of(alloc, url) else {
+    let (map, written) = (&read.map, &read.written);
+    let Ok(folder) = folder_of(alloc, read.url) else {
         return Err(FileFault::Memory);
     };
     let mut found = Found {

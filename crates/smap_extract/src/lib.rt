@@ -8,7 +8,7 @@
 //! Unicode, are two. Contracts say which paths there are, and nothing of what is written to a disk, which isn't
 //! the program's alone: who owns the folder can exchange a folder in it between two calls.
 //!
-//! In a map the sources get other beginnings, and the list of contents more or fewer ([`change_sources`]). Only
+//! In a map the sources get other beginnings, and the list of contents more or fewer ([`changed_sources`]). Only
 //! the bytes of these change, and the new text is read back before it is written: contracts say that all other
 //! bytes stay, and which sources the new map lists.
 #![tactic(auto)]
@@ -36,5 +36,6 @@ pub use gathering::Extraction;
 pub use path::{SourcePath, source_path};
 pub use patterns::Meant;
 pub use placing::placed;
-pub use sources_run::{MapPlace, SourcesTask, change_sources};
+pub use sources_fault::SourcesFault;
+pub use sources_run::{SourcesTask, changed_sources};
 pub use writing::{Written, write_files};

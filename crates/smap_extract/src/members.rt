@@ -211,9 +211,12 @@ fn add_maps_of(
     maps: &mut Vec<Span>,
 ) -> Result<bool, PlaceFault> {
     let members = members_of(alloc, text, map)?;
-    let Some(sections) = members.get(Name::Sections) else {
-        maps.push(map)?;
-        return Ok(false);
+    let sections = match members.get(Name::Sections) {
+        Some(sections) if sections.value.of(text).starts_with(b"[") => sections,
+        _ => {
+            maps.push(map)?;
+            return Ok(false);
+        }
     };
     if members.get(Name::Sources).is_some() || members.get(Name::Contents).is_some() {
         return Err(PlaceFault::Unclear);

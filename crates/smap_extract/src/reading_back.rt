@@ -120,7 +120,7 @@ fn have_contents(change: Change<'_>, read: &MapRead<'_>, new: &SourceMap) -> boo
 
 /// The beginnings that a change gives.
 fn prefixes_in<'a>(change: Change<'a>) -> &'a [(&'a str, &'a str)]
-    ensures { spec.prefixes_in result.now ≡ spec.prefixes_of change }
+    ensures { spec.prefixes_in result.now ≡ spec.prefixes_of change.entry }
 {
     match change {
         Change::Rename(prefixes) => prefixes,
@@ -136,7 +136,7 @@ pub(crate) fn check(
     text: &[u8],
 ) -> Result<(), SourcesFault>
     ensures { OnOk result (as_written text.now
-        ≡ map (spec.respelled (spec.prefixes_of change)) read.now.written) }
+        ≡ map (spec.respelled (spec.prefixes_of change.entry)) read.now.written) }
 {
     let limits = Limits::usual();
     let found = SourceMap::from_slice_within(alloc, text, read.base, limits, read.url_bytes)?;

@@ -1,13 +1,12 @@
 //! Why the sources of a map aren't changed.
 use crate::members::PlaceFault;
-use smap_edits::ReplaceFault;
 use smap_record::{Fault, ReadError};
 use smap_system::FileFault;
 use std::alloc::{AllocError, Global};
 
 /// Why a map stays as it is.
 #[derive(Drop)]
-pub(crate) enum SourcesFault {
+pub enum SourcesFault {
     /// It has a member twice.
     Twice,
     /// The place of a member isn't found.
@@ -20,8 +19,6 @@ pub(crate) enum SourcesFault {
     Unread,
     /// It would have more than 268,435,456 bytes.
     TooLong,
-    /// Its file can't be replaced.
-    Replace(ReplaceFault),
     /// Out of memory.
     Memory,
 }
@@ -60,18 +57,13 @@ impl From<FileFault> for SourcesFault {
     }
 }
 
-fn replace_text(fault: ReplaceFault) -> &'static str {
-    match fault {
-        ReplaceFault::Folder => "cannot write in its folder",
-        ReplaceFault::File => "cannot write it",
-        ReplaceFault::NotWritten => "write failed",
-        ReplaceFault::Changed => "it changed meanwhile, and stays as it is",
-    }
-}
-
 impl SourcesFault {
     /// What is said of it.
-    pub(crate) fn text(&self, alloc: Global) -> Result<String, AllocError> {
+    ///
+    /// # Errors
+    ///
+    /// `AllocError`.
+    pub fn text(&self, alloc: Global) -> Result<String, AllocError> {
         let text = match self {
             SourcesFault::Refused(fault) => {
                 return format!(in alloc; "it would be refused: {fault}");
@@ -81,17 +73,16 @@ impl SourcesFault {
             SourcesFault::LongUrls => "the URLs of its sources would take too many bytes",
             SourcesFault::Unread => "it would be read otherwise",
             SourcesFault::TooLong => "it would be too long",
-            SourcesFault::Replace(fault) => replace_text(*fault),
             SourcesFault::Memory => "out of memory",
         };
         String::from_str(alloc, text)
     }
 
     /// The status of a run that meets it.
-    pub(crate) fn status(&self) -> u8 {
+    pub fn status(&self) -> u8 {
         match self {
             SourcesFault::Memory => 4,
-            SourcesFault::TooLong | SourcesFault::Replace(_) => 3,
+            SourcesFault::TooLong => 3,
             _ => 1,
         }
     }

@@ -1,12 +1,10 @@
-//! A map of which the sources are changed, and what is said of that.
+//! What becomes of a map of which the sources are changed.
 use crate::changing::{Change, MapRead, changed};
 use crate::finding::find_contents;
 use crate::patterns::Meant;
 use crate::renaming::common_folder;
 use crate::sources_fault::SourcesFault;
-use smap_edits::replace_file;
-use smap_system::{Disk, Host, Stamp, Stop, Watched, printable};
-use std::io::Write;
+use smap_system::{Disk, Host};
 
 /// What is done with the sources of each map.
 #[derive(Drop)]
@@ -19,16 +17,6 @@ pub enum SourcesTask<'a> {
     Rename(Vec<(&'a str, &'a str)>),
     /// They lose the folder that they are all in.
     Strip,
-}
-
-/// The file of a map.
-#[derive(Clone, Copy)]
-pub struct MapPlace<'a> {
-    pub file: &'a str,
-    /// Its URL.
-    pub url: &'a [u8],
-    /// What the file was when it was read.
-    pub stamp: Stamp,
 }
 
 /// Says how many of the sources that are meant have no file.
@@ -48,80 +36,35 @@ fn say_missing<E: Eprint + AllocGlobal, D: Disk>(
 fn with_contents<E: Eprint + AllocGlobal, D: Disk>(
     host: &Host<'_, E, D>,
     meant: &Meant<'_>,
-    place: MapPlace<'_>,
+    file: &str,
     read: &MapRead<'_>,
 ) -> Result<Option<Vec<u8>>, SourcesFault> {
     let alloc = host.alloc();
-    let found = find_contents(alloc, host.disk, place.url, &read.map, &read.written, meant)?;
-    say_missing(host, place.file, found.missing)?;
+    let found = find_contents(alloc, host.disk, read, meant)?;
+    say_missing(host, file, found.missing)?;
     changed(alloc, read, Change::Add(&found.contents))
 }
 
-/// The text of a map once that is done; none if nothing changes.
-fn text_of<E: Eprint + AllocGlobal, D: Disk>(
+/// The text of the map in a file once that is done to its sources; none if nothing changes. How many sources
+/// have no content still is said.
+///
+/// # Errors
+///
+/// Why the map stays as it is.
+pub fn changed_sources<E: Eprint + AllocGlobal, D: Disk>(
     host: &Host<'_, E, D>,
     task: &SourcesTask<'_>,
-    place: MapPlace<'_>,
+    file: &str,
     read: &MapRead<'_>,
 ) -> Result<Option<Vec<u8>>, SourcesFault> {
     let alloc = host.alloc();
     match task {
-        SourcesTask::Add(meant) => with_contents(host, meant, place, read),
+        SourcesTask::Add(meant) => with_contents(host, meant, file, read),
         SourcesTask::Drop(meant) => changed(alloc, read, Change::Drop(meant)),
         SourcesTask::Rename(prefixes) => changed(alloc, read, Change::Rename(prefixes)),
         SourcesTask::Strip => {
             let from = common_folder(&read.written);
             changed(alloc, read, Change::Rename(&[(from, "")]))
-        }
-    }
-}
-
-/// Whether a map changes, once its file has the new text if it is to be written.
-fn change<E: Eprint + AllocGlobal, D: Disk>(
-    host: &Host<'_, E, D>,
-    task: &SourcesTask<'_>,
-    write: bool,
-    place: MapPlace<'_>,
-    read: &MapRead<'_>,
-) -> Result<bool, SourcesFault> {
-    let Some(text) = text_of(host, task, place, read)? else {
-        return Ok(false);
-    };
-    if write {
-        if let Err(fault) =
-            replace_file(host.alloc(), host.disk, place.file, Some(place.stamp), &text)
-        {
-            return Err(SourcesFault::Replace(fault));
-        }
-    }
-    Ok(true)
-}
-
-/// Changes the sources of a map, and names its file if that changes, or would. Answers the status of that.
-///
-/// # Errors
-///
-/// Why the run stops: what is wrong was said.
-pub fn change_sources<E: Eprint + AllocGlobal, D: Disk, W: Write>(
-    host: &Host<'_, E, D>,
-    task: &SourcesTask<'_>,
-    write: bool,
-    place: MapPlace<'_>,
-    read: &MapRead<'_>,
-    writer: &mut Watched<W>,
-) -> Result<u8, Stop> {
-    match change(host, task, write, place, read) {
-        Ok(false) => Ok(0),
-        Ok(true) => {
-            let mut line = printable(host.alloc(), place.file.as_bytes())?;
-            line.push_str("\n")?;
-            host.write(line.as_str().as_bytes(), writer)?;
-            Ok(if write { 0 } else { 1 })
-        }
-        Err(fault) => {
-            let text = fault.text(host.alloc())?;
-            host.say_of(place.file, text.as_str());
-            Ok(fault.status())
         }
     }
 }

@@ -2,14 +2,16 @@
 use crate::deciding::Work;
 use crate::extracting::refuse;
 use crate::looking::{Case, MapFile};
-use crate::targets::{Target, targets_of};
+use crate::replacing::put;
+use crate::reporting::write_line;
+use crate::targets::targets_of;
 use crate::{Verdict, unread};
 use smap_command_line::MapsCommand;
 use smap_command_line::maps::MapsWords;
-use smap_extract::{MapPlace, MapRead, Meant, SourcesTask, change_sources};
+use smap_extract::{MapRead, Meant, SourcesTask, changed_sources};
 use smap_map_files::MapText;
 use smap_record::{Limits, SourceMap};
-use smap_system::{Disk, Host, Stop, Watched};
+use smap_system::{Disk, Host, Stamp, Stop, Watched};
 use std::alloc::{AllocError, Global};
 use std::io::Write;
 
@@ -40,12 +42,14 @@ fn sources_task<'a>(alloc: Global, asked: &MapsWords<'a>) -> Result<SourcesTask<
 /// The map in a file, or what becomes of one that can't be read.
 fn map_in<'f>(
     alloc: Global,
+    url: &'f [u8],
     file: &'f MapFile,
     url_bytes: usize,
 ) -> Result<MapRead<'f>, Verdict> {
     let (bytes, base) = (file.bytes.as_slice(), &file.base);
     match SourceMap::from_slice_within(alloc, bytes, base, Limits::usual(), url_bytes) {
         Ok(Some((map, written))) => Ok(MapRead {
+            url,
             base,
             url_bytes,
             bytes,
@@ -65,6 +69,27 @@ fn map_in<'f>(
     }
 }
 
+/// Names a map that changes, once its file has the new text if that is wanted. Answers the status of that.
+fn finish<E: Eprint + AllocGlobal, D: Disk, W: Write>(
+    host: &Host<'_, E, D>,
+    file: &str,
+    stamp: Stamp,
+    text: Option<&[u8]>,
+    writer: &mut Watched<W>,
+) -> Result<u8, Stop> {
+    let Some(text) = text else {
+        write_line(host, file, writer)?;
+        return Ok(1);
+    };
+    match put(host.alloc(), host.disk, file, stamp, text) {
+        Ok(()) => {
+            write_line(host, file, writer)?;
+            Ok(0)
+        }
+        Err(failure) => refuse(host, file, Verdict::Failed(failure)),
+    }
+}
+
 /// Changes the sources of a target's map, or says why not. Answers the status of that.
 fn change_target<E: Eprint + AllocGlobal, D: Disk, W: Write>(
     host: &Host<'_, E, D>,
@@ -78,14 +103,21 @@ fn change_target<E: Eprint + AllocGlobal, D: Disk, W: Write>(
         Ok(file) => file,
         Err(verdict) => return refuse(host, name, verdict),
     };
-    let place = MapPlace {
-        file: name,
-        url: &case.target.url,
-        stamp: file.stamp,
+    let read = match map_in(host.alloc(), &case.target.url, &file, case.url_bytes) {
+        Ok(read) => read,
+        Err(verdict) => return refuse(host, name, verdict),
     };
-    match map_in(host.alloc(), &file, case.url_bytes) {
-        Ok(read) => change_sources(host, task, write, place, &read, writer),
-        Err(verdict) => refuse(host, name, verdict),
+    match changed_sources(host, task, name, &read) {
+        Ok(None) => Ok(0),
+        Ok(Some(text)) => {
+            let text = if write { Some(text.as_slice()) } else { None };
+            finish(host, name, file.stamp, text, writer)
+        }
+        Err(fault) => {
+            let text = fault.text(host.alloc())?;
+            host.say_of(name, text.as_str());
+            Ok(fault.status())
+        }
     }
 }
 
