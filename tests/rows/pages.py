@@ -3,7 +3,8 @@
   blocks PAGE FOLDER   writes each block of sh to FOLDER/HEADING-N.sh, where HEADING is written as in links and
                        N counts the blocks below it, and lists these names without .sh. A block without a
                        language right behind it, which is what it writes, goes to FOLDER/HEADING-N.out
-  column PAGE HEADING  writes the code in the first column of the tables below a heading, a line each
+  column PAGE HEADING [N]  writes the code in the first column, or the one with this number, of the tables below
+                       a heading, a line each
   links PAGE...        names each link of a page to a file or a heading that isn't there
   cells PAGE...        names each cell of a table that has more than 600 characters
 """
@@ -66,10 +67,10 @@ def cells_of(row):
     return re.split(r"(?<!\\)\|", row)[1:-1]
 
 
-def column(page, wanted):
+def column(page, wanted, number=1):
     for heading, language, text in parts(page):
         if heading == wanted and language is None and text.startswith("|"):
-            for _, code in CODE.findall(cells_of(text)[0]):
+            for _, code in CODE.findall(cells_of(text)[int(number) - 1]):
                 print(code)
 
 

@@ -27,6 +27,28 @@ run_blocks() {
     done <names
 }
 
+# Runs the commands of the table of MAPS, one after the other, over two builds of a script. Writes the status of
+# each before it, and what it writes to written-N.
+run_commands() {
+    python3 -B "$rows/pages.py" column "$rows/../../docs/MAPS.md" what-people-do-with-maps 2 >commands
+    for build in old dist; do
+        mkdir "$build"
+        printf 'f("%s");\n//# sourceMappingURL=app.js.map\n' "$build" >"$build/app.js"
+    done
+    mkdir bin
+    ln -s "$SMAP" bin/smap-maps
+    ln -s smap-maps bin/smap-trace
+    ln -s smap-maps bin/smap-view
+    PATH=$work/bin:$PATH
+    n=0
+    printf '{"version":3,"sources":["a.ts"],"sourcesContent":["f()"],"mappings":"AAAA"}' >old/app.js.map
+    printf '{"version":"3","sources":["a.ts"],"sourcesContent":["g()"],"mappings":"AAAA,EAAE"}' >dist/app.js.map
+    while IFS= read -r command; do
+        sh -c "$command" >"written-$((n += 1))" 2>&1
+        echo "$? $command"
+    done <commands
+}
+
 # Puts a stand-in for `rt run -- ARGUMENT...` in the folder of the program on the PATH.
 stand_in_for_rt() {
     mkdir -p bin

@@ -36,7 +36,7 @@ fn same_places(a: Option<OriginalView<'_>>, b: Option<OriginalView<'_>>) -> bool
 }
 
 /// What a lookup finds for the position of another map's mapping.
-#[tactic(auto, using(Rattle::smap_trace::proofs::LookupLemmas::falls_to_is))]
+#[tactic(auto, using(smap_trace::proofs::LookupLemmas::falls_to_is))]
 fn found<'a>(map: &'a SourceMap, token: TokenView<'_>) -> Option<TokenView<'a>>
     ensures { option_map mapping_of_view result
         ≡ mapping_at (record_of map.now).mappings token.entry.line token.entry.column }

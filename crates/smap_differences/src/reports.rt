@@ -3,7 +3,7 @@ use crate::leading::Leading;
 use crate::showing::count_text;
 use serde_json::{Value, json};
 use smap_system::printable;
-use smap_view_page::{json_line, push_cells};
+use smap_view_page::{json_line, push_cell};
 use std::alloc::{AllocError, Global};
 
 /// How it is written.
@@ -133,7 +133,9 @@ fn push_row(
     let state = state_name(map.state);
     let front = format!(in alloc; "| {state} ")?;
     text.push_str(front.as_str())?;
-    push_cells(alloc, text, &[map.path, change])
+    push_cell(alloc, text, map.path)?;
+    push_cell(alloc, text, change)?;
+    text.push_str("|\n")
 }
 
 /// Appends a row for each line of a map.

@@ -1,6 +1,5 @@
 -- Texts in cells of a table in Markdown.
 use Rattle.std.specs.Prelude.{ℕ, ◌==◌, ◌&&◌, ◌||◌, ◌++◌, Bool, cond, nat_le, List, chars, codes, decimal, encode_utf8}
-use Rattle.std.specs.Borrow.{Bor}
 use Rattle.std.specs.List.{flat_map}
 use Rattle.smap_system.specs.Printing.{printable}
 
@@ -25,7 +24,3 @@ code text = flat_map char_text (chars text)
 -- a cell, with the characters that a terminal may take for something else as `\u001b`
 abbrev pub cell : List ℕ → List ℕ
 cell text = codes "| <code>" ++ (code (printable text) ++ codes "</code> ")
-
--- the cells with which a row ends
-abbrev pub cells : List (Bor (List ℕ)) → List ℕ
-cells texts = flat_map (λ t. cell t.now) texts ++ codes "|\n"

@@ -1,6 +1,6 @@
 //! A build compared with another one.
 use crate::amounts::{Row, summed};
-use crate::markdown::push_cells;
+use crate::markdown::push_cell;
 use crate::nesting::folders;
 use crate::parts::{Part, rows_of};
 use crate::shares::by_growth;
@@ -311,7 +311,8 @@ fn push_markdown_row(
     let growth = growth.as_str();
     let front = format!(in alloc; "| {old} | {bytes} | {growth} | {what} ")?;
     text.push_str(front.as_str())?;
-    push_cells(alloc, text, &[row.name])
+    push_cell(alloc, text, row.name)?;
+    text.push_str("|\n")
 }
 
 /// Appends the rows that have changed to a table in Markdown.

@@ -34,7 +34,7 @@ pub use embedding::embedded;
 pub use growth::{Builds, growth_markdown, growth_table, growth_tsv, growth_value, json_line};
 pub use laws::nothing_ends_an_element;
 pub use mappings::mappings_text;
-pub use markdown::push_cells;
+pub use markdown::push_cell;
 pub use measuring::{Sizes, measured};
 pub use nesting::folders;
 pub use parts::{

@@ -1,6 +1,5 @@
 //! Texts in cells of a table in Markdown.
 ghost use Rattle.std.specs.Prelude.{◌≡◌, ◌++◌, IfOk, OnOk, string_bytes};
-ghost use Rattle.std.specs.List.{flat_map};
 ghost use Rattle.smap_view_page.specs.Markdown as spec;
 
 use smap_system::printable;
@@ -42,8 +41,13 @@ fn code(alloc: Global, text: &str) -> Result<String, AllocError>
     Ok(made)
 }
 
-/// Appends a cell of a table with a text in it.
-fn push_cell(alloc: Global, text: &mut String, cell: &str) -> Result<(), AllocError>
+/// Appends a cell of a row with a text in it, as code. All but letters, digits and four signs is written by its
+/// number, so no text ends its cell, or begins anything else.
+///
+/// # Errors
+///
+/// `AllocError`.
+pub fn push_cell(alloc: Global, text: &mut String, cell: &str) -> Result<(), AllocError>
     ensures { OnOk result (string_bytes text.new ≡ string_bytes text.old ++ spec.cell cell.now) }
 {
     let cell = printable(alloc, cell.as_bytes())?;
@@ -51,19 +55,4 @@ fn push_cell(alloc: Global, text: &mut String, cell: &str) -> Result<(), AllocEr
     let cell = cell.as_str();
     let cell = format!(in alloc; "| <code>{cell}</code> ")?;
     text.push_str(cell.as_str())
-}
-
-/// Appends the last cells of a row, as code. All but letters, digits and four signs is written by its number,
-/// so no text ends its cell, or begins anything else.
-///
-/// # Errors
-///
-/// `AllocError`.
-pub fn push_cells(alloc: Global, text: &mut String, cells: &[&str]) -> Result<(), AllocError>
-    ensures { OnOk result (string_bytes text.new ≡ string_bytes text.old ++ spec.cells cells.now) }
-{
-    for cell in cells {
-        push_cell(alloc, text, *cell)?;
-    }
-    text.push_str("|\n")
 }
