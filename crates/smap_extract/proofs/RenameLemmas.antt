@@ -39,7 +39,9 @@ respelled_at ps old new i source root new_source new_root o n so ro sn rn named 
     sources : (get_or new i none).source ≡ option_map (renamed ps) (get_or old i none).source
     sources = has (λ s. s.source) new i new_source n sn ∙ named
         ∙ ap (option_map (renamed ps)) (sym (has (λ s. s.source) old i source o so))
+
     roots : (get_or new i none).root ≡ (get_or old i none).root
     roots = has (λ s. s.root) new i new_root n rn ∙ sym rooted ∙ sym (has (λ s. s.root) old i root o ro)
+
     same : get_or new i none ≡ respelled ps (get_or old i none)
     same = λ j. record { source = sources j; root = roots j }

@@ -75,7 +75,13 @@ fn add_names(
     for i in 0..list.entries.len() {
         let number = first.saturating_add(i);
         if number < written.len() {
-            add_name(alloc, prefixes, written.source(number), list.entries[i], edits)?;
+            add_name(
+                alloc,
+                prefixes,
+                written.source(number),
+                list.entries[i],
+                edits,
+            )?;
         }
     }
     Ok(())

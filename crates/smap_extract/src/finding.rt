@@ -169,7 +169,14 @@ pub(crate) fn find_contents<D: Disk>(
         let view = map.source(map.listed(i));
         let source = written.source(i);
         found = if view.content.is_none() && meant.has(source) {
-            found.with_file(alloc, disk, folder.as_str(), view.url, written.root(i), source)?
+            found.with_file(
+                alloc,
+                disk,
+                folder.as_str(),
+                view.url,
+                written.root(i),
+                source,
+            )?
         } else {
             found.with(None, false)?
         };

@@ -93,7 +93,11 @@ fn trimmed(text: &[u8]) -> &[u8] {
 
 /// Where a value ends that is followed by at most a comma before this place.
 fn end_before(text: &[u8], next: usize) -> usize {
-    let front = trimmed(Span { start: 0, end: next }.of(text));
+    let front = trimmed(Span {
+        start: 0,
+        end: next,
+    }
+    .of(text));
     match front.strip_suffix(b",") {
         Some(front) => trimmed(front).len(),
         None => front.len(),
@@ -148,7 +152,10 @@ fn members_of(alloc: Global, text: &[u8], object: Span) -> Result<Members, Place
             if members.get(name).is_some() {
                 return Err(PlaceFault::Twice);
             }
-            let value = Span { start: value_start, end };
+            let value = Span {
+                start: value_start,
+                end,
+            };
             let whole = whole_of(bytes, before, start, end, next);
             members.found.push(Member {
                 name,

@@ -26,7 +26,9 @@ fn say_missing<E: Eprint + AllocGlobal, D: Disk>(
     missing: u64,
 ) -> Result<(), SourcesFault> {
     if missing > 0 {
-        let text = format!(in host.alloc(); "sources without content and a file in UTF-8: {missing}")?;
+        let text = format!(in host.alloc();
+            "sources without content and a file in UTF-8: {missing}"
+        )?;
         host.say_of(file, text.as_str());
     }
     Ok(())

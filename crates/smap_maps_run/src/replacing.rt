@@ -31,5 +31,11 @@ pub(crate) fn replace<D: Disk>(case: &Case<'_, D>, stamp: Stamp, text: &[u8]) ->
     requires { IsDue (D.held case.now.disk.now) (string_bytes case.now.target.now.file)
         case.now.target.now.url.items case.now.url_bytes case.now.work text.now }
 {
-    put(case.alloc, case.disk, case.target.file.as_str(), stamp, text)
+    put(
+        case.alloc,
+        case.disk,
+        case.target.file.as_str(),
+        stamp,
+        text,
+    )
 }
