@@ -35,7 +35,8 @@ options_in() {
             awk -v "command=${2#"$program"}" '
                 !/-n / { print; next }
                 command == "" { if (/-n __fish_use_subcommand /) print; next }
-                index($0, "_from") && match($0, command "[ \x27]")
+                { split($0, part, "\x27") }
+                index(part[2], "_from") && index(part[2] " ", command " ")
             ' | sed 's/.*-l \([a-z-]*\) .*/--\1/'
         ;;
     esac | sort -u
