@@ -35,7 +35,7 @@ options_in() {
             awk -v "command=${2#"$program"}" '
                 !/-n / { print; next }
                 command == "" { if (/-n __fish_use_subcommand /) print; next }
-                index($0, "_from") && match($0, command "[ \x27]")
+                match($0, "_from[a-z -]*" command "[ \x27]")
             ' | sed 's/.*-l \([a-z-]*\) .*/--\1/'
         ;;
     esac | sort -u
