@@ -7,7 +7,7 @@ ghost use Rattle.smap_view_page.specs.Budgets as spec;
 pub enum Growth {
     Bytes(u64),
     /// Hundredths of what the other one has.
-    Percent(u64),
+    Percent(u32),
 }
 
 /// The number before a unit, in digits alone.
@@ -34,7 +34,7 @@ fn bytes(text: &str) -> Option<u64> {
 pub fn growth_named(text: &str) -> Option<Growth> {
     let text = text.strip_prefix('+')?;
     match number(text, "%") {
-        Some(number) => Some(Growth::Percent(number)),
+        Some(number) => Some(Growth::Percent(u32::try_from(number).ok()?)),
         None => Some(Growth::Bytes(bytes(text)?)),
     }
 }
