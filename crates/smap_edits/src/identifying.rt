@@ -11,10 +11,10 @@ use smap_shape::shape;
 use smap_system::{Disk, Kind, LIMIT, Stamp, parted, read_file};
 use std::alloc::Global;
 
-/// How long an id is that is copied, at most.
+/// How many bytes an id has at most that is copied.
 const LONGEST: usize = 64;
 
-/// So many bytes a comment or a member with an id has at most.
+/// How many bytes a comment or a member with an id has at most.
 const ROOM: u64 = 128;
 
 /// The map of a script, and its file.
@@ -25,7 +25,7 @@ struct MapFile {
     bytes: Vec<u8>,
 }
 
-/// What a script and its map become; none stays as it is.
+/// What a script and its map become: nothing where one stays as it is.
 #[derive(Drop)]
 pub(crate) struct Identified {
     script: Option<Vec<u8>>,
