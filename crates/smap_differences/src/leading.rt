@@ -138,7 +138,7 @@ fn earlier(a: Option<(u32, u32)>, b: Option<(u32, u32)>) -> Option<(u32, u32)>
 
 /// The positions of two maps' mappings that lead elsewhere in the other map: to another line or column, a
 /// source of another URL, or another name, or to none. Each mapping is looked up in the other map.
-pub fn leading(old: &SourceMap, new: &SourceMap) -> Leading
+pub fn elsewhere(old: &SourceMap, new: &SourceMap) -> Leading
     ensures count { result.count ≡ spec.count (record_of old.now) (record_of new.now) }
     ensures first { result.first ≡ spec.first (record_of old.now) (record_of new.now) }
 {

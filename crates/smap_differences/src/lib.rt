@@ -6,7 +6,7 @@
 //! level, and of their maps. How a name is shown is told here too ([`shown_name`], [`cut`]).
 //!
 //! What differs between the maps of two builds: which belong together ([`paired`]), the positions that lead
-//! elsewhere ([`leading`]), sources with other contents ([`changed_contents`]), and how that is written
+//! elsewhere ([`elsewhere`]), sources with other contents ([`changed_contents`]), and how that is written
 //! ([`map_diff_text`]).
 #![tactic(auto)]
 
@@ -24,7 +24,7 @@ mod showing;
 
 pub use comparing::changes;
 pub use contents::changed_contents;
-pub use leading::{Leading, leading};
+pub use leading::{Leading, elsewhere};
 pub use members::Part;
 pub use naming::{bare_json, cut, json, shown_name};
 pub use pairs::{Pair, paired};

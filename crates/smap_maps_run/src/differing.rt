@@ -6,7 +6,7 @@ use crate::looking::tree;
 use crate::targets::{Target, targets_of};
 use smap_command_line::maps::MapsWords;
 use smap_differences::{
-    DiffForm, MapDiff, Pair, State, changed_contents, changes, diff_form, leading, map_diff_text,
+    DiffForm, MapDiff, Pair, State, changed_contents, changes, diff_form, elsewhere, map_diff_text,
     paired,
 };
 use smap_map_files::{MapText, base_given, folder_url, is_within, without_slashes};
@@ -188,7 +188,7 @@ fn differences<'a>(
         path,
         state: State::Different,
         changes: changes_of(alloc, &old.text, &new.text)?,
-        leading: Some(leading(&old.map, &new.map)),
+        leading: Some(elsewhere(&old.map, &new.map)),
     })
 }
 
