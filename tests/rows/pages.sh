@@ -43,6 +43,7 @@ run_commands() {
     n=0
     printf '{"version":3,"sources":["a.ts"],"sourcesContent":["f()"],"mappings":"AAAA"}' >old/app.js.map
     printf '{"version":"3","sources":["a.ts"],"sourcesContent":["g()"],"mappings":"AAAA,EAAE"}' >dist/app.js.map
+    printf 'g()' >dist/a.ts
     while IFS= read -r command; do
         sh -c "$command" >"written-$((n += 1))" 2>&1
         echo "$? $command"
