@@ -3,8 +3,13 @@ use Rattle.std.proofs.Common.{◌≡◌, ◌∙◌, ℕ, ◌+◌, ◌<◌, ◌�
 use Rattle.std.proofs.Common.{Option, Some, cond, refl, arith, add-one, zero-add, not, length-take, filter, find}
 use Rattle.std.proofs.Common.{false}
 use Rattle.std.specs.List.{range_with_len}
-use Rattle.std.proofs.Math.Seq.{drop-cons}
+use Rattle.std.proofs.Math.Seq.{drop-cons, take-length}
+use Rattle.std.proofs.Math.ListN.{drop_of_length-le}
 use Rattle.std.proofs.lemmas.List.FromFn.{get_or-range_with_len, length-range_with_len}
+use Rattle.std.proofs.Common.{None, slice_get, inl, inr, ◌-◌}
+use Rattle.std.proofs.lemmas.Option.{slice_get_within, slice_get_cases}
+use Rattle.smap_record.specs.Record.{Mapping}
+use Rattle.smap_differences.specs.Leading.{are_apart, is_last}
 use Rattle.std.proofs.lemmas.List.Filters.{length-filter_more, length-filter_both}
 
 within : (n i : ℕ) → i < n → i < length (range_with_len 0 n)
@@ -47,3 +52,24 @@ find_here p n i h e = rw (find_next p n i h, ← e) refl
 pub find_later : (p : ℕ → Bool) (n i : ℕ) → i < n → false ≡ p i
     → find p (drop i (range_with_len 0 n)) ≡ find p (drop (i + 1) (range_with_len 0 n))
 find_later p n i h e = rw (find_next p n i h, ← e) refl
+
+none_behind : (ms : List Mapping) (i : ℕ) → length ms ≤ i → slice_get ms i ≡ None
+none_behind ms i h = elim (slice_get_cases ms i).1 as (λ _. slice_get ms i ≡ None) [
+  | inl f ↦ absurd (let w = slice_get_within ms i f.0 f.2 in omega arith)
+  | inr f ↦ f.1
+]
+
+apart_none : (o : Option Mapping) → are_apart o None ≡ true
+apart_none None = refl
+apart_none (Some m) = refl
+
+pub last_is : (ms : List Mapping) (i : ℕ) → length ms - i ≡ 1 → is_last ms i ≡ true
+last_is ms i h = rw (none_behind ms (i + 1) (omega arith)) (apart_none (slice_get ms i))
+
+pub take_all : (n : ℕ) → take n (range_with_len 0 n) ≡ range_with_len 0 n
+take_all n = rw (length-range_with_len 0 n) at (take-length (range_with_len 0 n))
+
+pub none_left : (p : ℕ → Bool) (n : ℕ) → find p (drop n (range_with_len 0 n)) ≡ None
+none_left p n =
+    let h : length (range_with_len 0 n) ≤ n = rw (length-range_with_len 0 n) (omega arith) in
+    rw (drop_of_length-le (range_with_len 0 n) h) refl

@@ -57,11 +57,13 @@ fn leaves(shared: bool, token: TokenView<'_>, there: Option<TokenView<'_>>) -> b
 }
 
 /// Whether a mapping is the last one at its position.
+#[tactic(auto, using(crate::proofs::LeadingLemmas::last_is))]
 fn is_last(map: &SourceMap, i: usize) -> bool
     requires { i < length (record_of map.now).mappings }
     ensures { result ≡ spec.is_last (record_of map.now).mappings i }
 {
-    if i + 1 >= map.token_count() {
+    let count = map.token_count();
+    if count - i == 1 {
         return true;
     }
     let (token, next) = (map.token(i), map.token(i + 1));
@@ -86,6 +88,7 @@ fn more(count: usize, counts: bool) -> usize
 }
 
 /// How many positions of a map's mappings lead elsewhere in another one.
+#[tactic(auto, using(crate::proofs::LeadingLemmas::filter_bound, crate::proofs::LeadingLemmas::take_all))]
 fn count_in(shared: bool, map: &SourceMap, other: &SourceMap) -> usize
     ensures { result ≡ spec.count_in shared (record_of map.now) (record_of other.now) }
 {
@@ -97,6 +100,7 @@ fn count_in(shared: bool, map: &SourceMap, other: &SourceMap) -> usize
 }
 
 /// The first of their mappings.
+#[tactic(auto, using(crate::proofs::LeadingLemmas::none_left))]
 fn first_in(shared: bool, map: &SourceMap, other: &SourceMap) -> Option<usize>
     ensures { result ≡ spec.first_in shared (record_of map.now) (record_of other.now) }
 {
