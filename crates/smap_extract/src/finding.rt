@@ -43,10 +43,24 @@ fn is_relative(text: &str) -> bool {
     }
 }
 
-/// Whether a file is below the folder of its map, or where its source is relative to the map.
-fn is_allowed(folder: &str, path: &str, root: Option<&str>, source: &str) -> bool {
-    (!folder.is_empty() && path.starts_with(folder))
-        || (is_relative(source) && is_relative(root.unwrap_or("")))
+/// Folders with slashes at their ends; empty if there is none.
+#[derive(Clone, Copy)]
+struct Folders<'a> {
+    /// That of the map.
+    own: &'a str,
+    /// That in which the program runs.
+    working: &'a str,
+}
+
+fn is_below(folder: &str, path: &str) -> bool {
+    !folder.is_empty() && path.starts_with(folder)
+}
+
+/// Whether a file is below the folder of its map, or below the working folder and its source relative to the
+/// map: a map from elsewhere has no other files read.
+fn is_allowed(folders: Folders<'_>, path: &str, root: Option<&str>, source: &str) -> bool {
+    let is_relative = is_relative(source) && is_relative(root.unwrap_or(""));
+    is_below(folders.own, path) || (is_relative && is_below(folders.working, path))
 }
 
 /// Whether a path leads to a file, and over no link.
@@ -79,7 +93,7 @@ fn text_in<D: Disk>(
 fn content_of<D: Disk>(
     alloc: Global,
     disk: &D,
-    folder: &str,
+    folders: Folders<'_>,
     url: &str,
     root: Option<&str>,
     source: &str,
@@ -91,7 +105,7 @@ fn content_of<D: Disk>(
     let Some(path) = path else {
         return Ok(None);
     };
-    if !is_allowed(folder, path.as_str(), root, source) {
+    if !is_allowed(folders, path.as_str(), root, source) {
         return Ok(None);
     }
     match is_plain_file(alloc, disk, path.as_str()) {
@@ -127,7 +141,7 @@ impl Found {
         self,
         alloc: Global,
         disk: &D,
-        folder: &str,
+        folders: Folders<'_>,
         url: Option<&str>,
         root: Option<&str>,
         source: Option<&str>,
@@ -135,7 +149,7 @@ impl Found {
         let (Some(url), Some(source)) = (url, source) else {
             return self.with(None, false);
         };
-        let content = content_of(alloc, disk, folder, url, root, source, self.left)?;
+        let content = content_of(alloc, disk, folders, url, root, source, self.left)?;
         let is_missing = content.is_none();
         self.with(content, is_missing)
     }
@@ -149,6 +163,18 @@ fn folder_of(alloc: Global, url: &[u8]) -> Result<String, AllocError> {
     }
 }
 
+/// The working folder with a slash at its end; empty if it isn't known, or has all files below it.
+fn working_folder<D: Disk>(alloc: Global, disk: &D) -> Result<String, AllocError> {
+    match disk.real_path(alloc, ".") {
+        Ok(real) if real.as_str() != "/" => {
+            let real = real.as_str();
+            format!(in alloc; "{real}/")
+        }
+        Err(error) if error.kind() == ErrorKind::OutOfMemory => Err(AllocError),
+        Ok(_) | Err(_) => Ok(String::new(alloc)),
+    }
+}
+
 /// What the files hold of those sources of a map that are meant and have no content.
 pub(crate) fn find_contents<D: Disk>(
     alloc: Global,
@@ -157,8 +183,12 @@ pub(crate) fn find_contents<D: Disk>(
     meant: &Meant<'_>,
 ) -> Result<Found, FileFault> {
     let (map, written) = (&read.map, &read.written);
-    let Ok(folder) = folder_of(alloc, read.url) else {
+    let (Ok(own), Ok(working)) = (folder_of(alloc, read.url), working_folder(alloc, disk)) else {
         return Err(FileFault::Memory);
+    };
+    let folders = Folders {
+        own: own.as_str(),
+        working: working.as_str(),
     };
     let mut found = Found {
         contents: Vec::new(alloc),
@@ -169,14 +199,7 @@ pub(crate) fn find_contents<D: Disk>(
         let view = map.source(map.listed(i));
         let source = written.source(i);
         found = if view.content.is_none() && meant.has(source) {
-            found.with_file(
-                alloc,
-                disk,
-                folder.as_str(),
-                view.url,
-                written.root(i),
-                source,
-            )?
+            found.with_file(alloc, disk, folders, view.url, written.root(i), source)?
         } else {
             found.with(None, false)?
         };
