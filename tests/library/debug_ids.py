@@ -85,7 +85,8 @@ class EventsTest(EventsCase):
     def setUp(self):
         super().setUp()
         (self.dist / "cart.js.map").write_text(json.dumps({**MAP, "debugId": ID}))
-        (self.dist / "old.js.map").write_text(json.dumps({**MAP, "sources": ["old.ts"], "debugId": OTHER}))
+        old = {**MAP, "sources": ["old.ts", *MAP["sources"][1:]], "debugId": OTHER}
+        (self.dist / "old.js.map").write_text(json.dumps(old))
 
     @staticmethod
     def event(images, *files):
