@@ -79,7 +79,7 @@ enum {
     SMAP_MEMORY = 4,     /* out of memory */
     SMAP_CLOSED = 5,     /* a handle is closed */
     SMAP_NONE = 6,       /* nothing there: no mapping, no URL, no content, no name, no file, no frame */
-    SMAP_RANGE = 7,      /* the number isn't below the count */
+    SMAP_RANGE = 7,      /* the number isn't below the count, or no mapping has such numbers */
     SMAP_URL_BYTES = 8,  /* the URLs of a map's sources take more bytes than they may */
     SMAP_NOT_BASE64 = 9, /* a data: URL says that it is base64, and isn't */
     SMAP_NOT_UTF8 = 10,  /* a path or a URL isn't UTF-8 */
@@ -336,6 +336,16 @@ uint32_t smap_flatten(smap_map *map, smap_bytes *out);
 /* A mappings string, sorted and as short as possible. OK: `out` holds it. REFUSED: *fault says why (`fault`
  * may be NULL). MEMORY. */
 SMAP_INLINE uint32_t smap_respell(const char *text, size_t len, smap_bytes *out, smap_fault *fault);
+
+/* The mappings string of mappings, sorted by generated line and column and as short as possible. They may
+ * come in any order, and then a sort takes memory; those at one position keep it. Each has six numbers,
+ * one after another and each from 0: the generated line and column, the source, its line and column, and
+ * the name. 4294967295 stands for none: the last four in a mapping without an original, the last one in
+ * one without a name.
+ * OK: `out` holds the string. RANGE: a generated line isn't below 16777216, another number is above
+ * 2147483647 and not none, or a mapping has no generated column, or a part of an original; *wrong is the
+ * index of the first such mapping (`wrong` may be NULL). MEMORY. */
+SMAP_INLINE uint32_t smap_spell(const uint32_t *numbers, size_t mappings, smap_bytes *out, size_t *wrong);
 
 /* ---- stack traces */
 
@@ -635,6 +645,7 @@ uint32_t smap_compose_strict(smap_map *outer, smap_map *inner, size_t inner_coun
                              size_t leads_count, const smap_limits *limits, smap_map *out);
 size_t smap_bytes_copy_strict(smap_bytes *bytes, size_t from, void *out, size_t room);
 uint32_t smap_respell_strict(const char *text, size_t len, smap_bytes *out, smap_fault *fault);
+uint32_t smap_spell_strict(const uint32_t *numbers, size_t mappings, smap_bytes *out, size_t *wrong);
 uint32_t smap_frame_strict(const void *line, size_t len, smap_frame_parts *out);
 uint32_t smap_translate_line_strict(smap_map *map, const char *url, size_t url_len, const void *line,
                                     size_t line_len, uint8_t how, char *out, size_t room, size_t *len,
@@ -769,6 +780,14 @@ static inline uint32_t smap_respell(const char *text, size_t len, smap_bytes *ou
 {
     smap_fault no_fault;
     return smap_respell_strict(text ? text : smap_no_text_, len, out, fault ? fault : &no_fault);
+}
+
+static inline uint32_t smap_spell(const uint32_t *numbers, size_t mappings, smap_bytes *out,
+                                  size_t *wrong)
+{
+    const uint32_t no_numbers = {0};
+    size_t no_wrong;
+    return smap_spell_strict(numbers ? numbers : &no_numbers, mappings, out, wrong ? wrong : &no_wrong);
 }
 
 static inline uint32_t smap_frame(const void *line, size_t len, smap_frame_parts *out)

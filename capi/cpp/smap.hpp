@@ -234,6 +234,14 @@ inline uint32_t alike(const std::string &one, const std::string &other, bool &ou
     return smap_alike(one.data(), one.size(), other.data(), other.size(), &out);
 }
 
+/* ---- mappings strings */
+
+/* The mappings string of mappings, six numbers each, as smap_spell writes it. */
+inline uint32_t spell(const std::vector<uint32_t> &numbers, Bytes &out, size_t *wrong = nullptr)
+{
+    return smap_spell(numbers.data(), numbers.size() / 6, out.handle(), wrong);
+}
+
 /* ---- maps made of maps */
 
 /* Composes a map with maps of its sources, as smap_compose does. */

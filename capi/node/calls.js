@@ -6,7 +6,7 @@
 const AT = 32, LEN = 40, COUNTS = 48, NUMBER = 88, SECTION = 96, DEPTH = 160, HAS_PLACE = 164, LINE = 168,
   SEGMENT = 172, KIND_LEN = 176, TEXT_LEN = 180, YES = 184, KIND = 192, TEXT = 224, ALL = 488;
 const FOUND = 8;
-const OK = 0, REFUSED = 1, MEMORY = 4, CLOSED = 5, NONE = 6;
+const OK = 0, REFUSED = 1, MEMORY = 4, CLOSED = 5, NONE = 6, RANGE = 7;
 const HANDLE = 64; // bytes, more than a handle of the library takes
 const ROWS = 16384; // of a table, at a time
 const TEXTS = ['FILE', 'SOURCE_URL', 'SOURCE_CONTENT', 'WRITTEN_SOURCE', 'WRITTEN_ROOT', 'LISTED_NAME'];
@@ -384,6 +384,21 @@ function callsOf(x, host) {
 
   native.respell = text => {
     check(withTexts([text], call.respell));
+    return told(string);
+  };
+
+  // A string, or the index of the first mapping that is wrong.
+  native.spell = numbers => {
+    const n = words(numbers).length, room = block(4 * n + 4);
+    let code;
+    try {
+      new Uint32Array(x.memory.buffer, room, n).set(numbers);
+      code = call.spell(room, Math.floor(n / 6));
+    } finally {
+      if (!isBroken) call.free(room);
+    }
+    if (code === RANGE) return f64(COUNTS);
+    check(code);
     return told(string);
   };
 

@@ -1,9 +1,9 @@
 'use strict';
 // What @ampproject/remapping offers, over libsmap: one map out of a chain of maps.
+const { mappingsOf } = require('./decoded.js');
 const { SourceMap } = require('./index.js');
 const { indices } = require('./lists.js');
 const { TraceMap, decodedMappings, encodedMappings } = require('./trace-map.js');
-const { encode } = require('./vlq.js');
 
 // Each source of each map is below this, by its number among all: so no two of them are taken for one.
 const BASE = 'http://smap.invalid/';
@@ -96,7 +96,7 @@ class Remapped {
     const told = isSame ? lines : renumbered(lines, firsts.map(i => places.get(ends[i])));
     this.version = 3;
     this.file = file;
-    this.mappings = isDecoded ? told : isSame ? flat.mappings : encode(told);
+    this.mappings = isDecoded ? told : isSame ? flat.mappings : mappingsOf(told).spelled();
     this.names = flat.names;
     this.sourceRoot = undefined;
     this.sources = kept.map(({ source }) => source || null);

@@ -3,7 +3,7 @@
 
 /**
  * What a call throws that the library answers with a code. `code` is `SMAP_REFUSED` for a map that has an
- * error, and the rest says which and where; else the rest is null.
+ * error, and the rest says which and where; else the rest is null, but `number` where `spell` throws.
  */
 class SmapError extends Error {
   constructor(code, message, kind = null, line = null, segment = null, number = null, section = null) {

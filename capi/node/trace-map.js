@@ -2,7 +2,7 @@
 // What @jridgewell/trace-mapping offers for reading maps, over libsmap.
 const { Lists, DEEP, indices, inOriginalOrder, firstFrom } = require('./lists.js');
 const { NONE, found, listedAt } = require('./inside.js');
-const { encode } = require('./vlq.js');
+const { mappingsOf } = require('./decoded.js');
 
 const LEAST_UPPER_BOUND = -1;
 const GREATEST_LOWER_BOUND = 1;
@@ -24,6 +24,7 @@ class TraceMap {
     const own = new Lists(isText ? map : JSON.stringify(plain(map)), mapUrl, isText ? null : map);
     this.#own = own;
     if (!own.hasSections && typeof map.mappings === 'string') own.encoded = map.mappings;
+    own.lines = !own.hasSections && Array.isArray(map.mappings) ? map.mappings.length : 0;
     own.folder = folderOf(mapUrl);
     own.told = [];
     own.named = [];
@@ -103,7 +104,7 @@ function plain(map) {
     const inner = section => (typeof section.map === 'string' ? JSON.parse(section.map) : section.map);
     return { ...map, sections: map.sections.map(section => ({ ...section, map: plain(inner(section)) })) };
   }
-  return Array.isArray(map.mappings) ? { ...map, mappings: encode(map.mappings) } : map;
+  return Array.isArray(map.mappings) ? { ...map, mappings: mappingsOf(map.mappings).spelled() } : map;
 }
 
 function AnyMap(map, mapUrl) {
@@ -275,7 +276,9 @@ function decodedMappings(map) {
     const error = new RangeError(`${length} lines, and more than the map's text has characters`);
     throw Object.assign(error, { code: 'SMAP_TOO_LONG' });
   }
-  return (own.decoded = Array.from({ length }, (_, line) => lineAt(own.table, line)));
+  // The last ones of arrays may be empty.
+  const lines = Math.max(length, own.lines);
+  return (own.decoded = Array.from({ length: lines }, (_, line) => lineAt(own.table, line)));
 }
 
 // Those of the object that was given, or what libsmap writes for the flat map: in order, and as short as

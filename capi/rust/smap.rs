@@ -153,6 +153,39 @@ pub fn respell(text: &[u8]) -> Result<Vec<u8>, Error> {
         .map_err(|code| error(code, &fault))
 }
 
+/// Why mappings have no mappings text.
+#[derive(Clone, Copy, Debug, PartialEq, Eq)]
+pub enum SpellError {
+    /// The index of the first mapping that has numbers out of range.
+    Wrong(usize),
+    Memory,
+}
+
+impl fmt::Display for SpellError {
+    fn fmt(&self, f: &mut fmt::Formatter<'_>) -> fmt::Result {
+        match self {
+            SpellError::Wrong(i) => write!(f, "mapping {i}: number out of range"),
+            SpellError::Memory => Error::Memory.fmt(f),
+        }
+    }
+}
+
+impl std::error::Error for SpellError {}
+
+/// The mappings text of mappings in any order, sorted and as short as possible; those at one position keep
+/// their order. A mapping's numbers, each from 0, are the generated line and column, the source, its line and
+/// column, and the name. `u32::MAX` stands for none: the last four in a mapping without an original, the last
+/// one in one without a name. The line is below 16,777,216, and the others are at most 2,147,483,647.
+pub fn spell(mappings: &[[u32; 6]]) -> Result<Vec<u8>, SpellError> {
+    let mut wrong = 0;
+    let numbers = mappings.as_ptr() as *const u32;
+    match written(|out| unsafe { smap_spell(numbers, mappings.len(), out, &mut wrong) }) {
+        Ok(text) => Ok(text),
+        Err(RANGE) => Err(SpellError::Wrong(wrong)),
+        Err(_) => Err(SpellError::Memory),
+    }
+}
+
 /// Why a URL or a path gives nothing.
 #[derive(Clone, Copy, Debug, PartialEq, Eq)]
 pub enum LinkError {
@@ -976,6 +1009,7 @@ mod raw {
         pub fn smap_canonical_mappings(map: *mut Map, out: *mut Bytes) -> u32;
         pub fn smap_flatten(map: *mut Map, out: *mut Bytes) -> u32;
         pub fn smap_respell(text: *const u8, len: usize, out: *mut Bytes, fault: *mut Fault) -> u32;
+        pub fn smap_spell(numbers: *const u32, mappings: usize, out: *mut Bytes, wrong: *mut usize) -> u32;
         pub fn smap_frame(line: *const u8, len: usize, out: *mut FrameParts) -> u32;
         pub fn smap_translate_line(
             map: *mut Map, url: *const u8, url_len: usize, line: *const u8, line_len: usize, how: u8,

@@ -24,6 +24,7 @@ smap-maps tidy: --base --absolute --relative --write --drop --diff --json --url-
 smap-maps flatten: --base --write --drop --diff --json --url-bytes --version --help
 smap-maps lint: --format --rule --min-mapped --url-bytes --version --help
 smap-maps repair: --base --write --url-bytes --version --help
+smap-maps compose: --write --drop --diff --json --thin --used --url-bytes --version --help
 smap-maps extract: --output --url-bytes --version --help
 smap-maps comment: --write --set --remove --url-bytes --version --help
 smap-maps inline: --write --url-bytes --version --help

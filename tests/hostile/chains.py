@@ -7,7 +7,7 @@ import random
 from answers import Run, test
 from one_byte import spelled
 
-CHAINS = 2000
+CHAINS = 10_000
 SCRIPTS = "a.js", "b.js", "c.js"
 HERE = "http://h/"
 

@@ -8,6 +8,7 @@ import subprocess
 import sys
 import tempfile
 import unittest
+from array import array
 from pathlib import Path
 from unittest import mock
 
@@ -86,6 +87,24 @@ class MistakesTest(unittest.TestCase):
                 self.assertEqual(smap.named_scripts(kind(b"@u:2:1")), {b"u": 1})
                 self.assertEqual(scripts.translate(kind(b"@u:2:1"))[0], b"@http://h/m/b.js:13:3")
                 self.assertEqual(wanted.translate_line(kind(b"@u:2:1"), "u"), b"@http://h/m/b.js:13:3")
+
+    def test_numbers_of_any_kind_are_taken(self):
+        none = 0xFFFFFFFF
+        numbers = array("I", [1, 4, 1, 0, 0, none, 0, 0, 0, 2, 1, 0, 1, 4, 0, 5, 0, none, 6, 2] + 4 * [none])
+        kinds = [list, iter, bytes, memoryview, (ctypes.c_uint32 * 24).from_buffer_copy]
+        for given in [kind(numbers) for kind in kinds] + [numbers, array("Q", numbers)]:
+            self.assertEqual(smap.spell(given), b"AAECA;ICFD,ADKA;;;;;E", given)
+        for given in (b"", [], array("I")):
+            self.assertEqual(smap.spell(given), b"")
+        numbers[2 * 6 + 1] = 1 << 31
+        with self.assertRaisesRegex(smap.Error, "^mapping 2: number out of range$") as raised:
+            smap.spell(numbers)
+        self.assertEqual(raised.exception.code, 7)
+        wrong = {ValueError: [[0], bytes(23)], OverflowError: [6 * [-1], 6 * [1 << 32]]}
+        wrong[TypeError] = ["AAAA", None, 1, 6 * [0.0], ["0"], array("d", [0])]
+        for error, values in wrong.items():
+            for value in values:
+                self.assertRaises(error, smap.spell, value)
 
     def test_what_is_bytes_is_no_str(self):
         with smap.Map.open(TEXT, BASE) as m, smap.Scripts({"u": m}) as scripts:

@@ -55,6 +55,12 @@ int main()
     CHECK(smap_canonical_mappings(map.handle(), bytes.handle()) == SMAP_OK && smap::text(bytes) == "AACAA");
     CHECK(smap::compose(last, inner, std::vector<size_t>(), map) == SMAP_OK);
     CHECK(smap_canonical_mappings(map.handle(), bytes.handle()) == SMAP_OK && smap::text(bytes) == "AAUEA");
+    size_t wrong = 99;
+    const uint32_t none = UINT32_MAX;
+    const std::vector<uint32_t> numbers = {0, 4, 0, 2, 1, 0, 0, 1, none, none, none, none};
+    CHECK(smap::spell(numbers, bytes) == SMAP_OK && smap::text(bytes) == "C,GAECA");
+    CHECK(smap::spell(std::vector<uint32_t>(), bytes, &wrong) == SMAP_OK && smap::text(bytes) == "");
+    CHECK(smap::spell(std::vector<uint32_t>(6, none), bytes, &wrong) == SMAP_RANGE && wrong == 0);
     bool alike = false;
     CHECK(smap::script_link("//# sourceMappingURL=a.map\n", out) == SMAP_OK && out == "a.map");
     CHECK(smap::script_link("//# sourceMappingURL=a.map", out, true) == SMAP_NONE && out == "");

@@ -105,6 +105,18 @@ static uint32_t respell_broken(void)
     return smap_respell("E,", 2, &out, &fault);
 }
 
+static uint32_t spell(void)
+{
+    static const uint32_t numbers[12] = {0, 1, 0, 0, 0, 0, 0, 2, 0, 0, 0, 0};
+    return smap_spell(numbers, 2, &out, NULL);
+}
+
+static uint32_t spell_unsorted(void)
+{
+    static const uint32_t numbers[12] = {1, 0, 0, 0, 0, 0, 0, 2, 0, 0, 0, 0};
+    return smap_spell(numbers, 2, &out, NULL);
+}
+
 static uint32_t line(void)
 {
     return smap_translate_line(&map, script, strlen(script), frame_line, strlen(frame_line), how, room,
@@ -272,6 +284,8 @@ int main(void)
     refuse("flatten", flatten, SMAP_OK);
     refuse("respell", respell, SMAP_OK);
     refuse("respell a broken text", respell_broken, SMAP_REFUSED);
+    refuse("spell", spell, SMAP_OK);
+    refuse("spell, unsorted", spell_unsorted, SMAP_OK);
     refuse("a data: URL", data_url, SMAP_OK);
     refuse("the URL of a file", file_url, SMAP_OK);
     refuse("the path of a URL", file_path, SMAP_OK);

@@ -80,6 +80,58 @@ static void links(void)
     smap_bytes_free(&out);
 }
 
+enum { GIVEN = 4 };
+#define NO_NUMBER UINT32_MAX
+
+/* Where the numbers of mappings are none of a mapping: the index of the first, in this many. */
+static void wrong_numbers(void)
+{
+    static const uint32_t rows[][12] = {
+        {16777215, 0, 0, 0, 0, 0, 16777216, 0, 0, 0, 0, 0},
+        {0, 2147483647, 0, 0, 0, 0, 0, 2147483648, 0, 0, 0, 0},
+        {0, 0, 2147483647, 0, 0, 0, 0, 0, 2147483648, 0, 0, 0},
+        {0, 0, 0, 2147483647, 0, 0, 0, 0, 0, 2147483648, 0, 0},
+        {0, 0, 0, 0, 2147483647, 0, 0, 0, 0, 0, 2147483648, 0},
+        {0, 0, 0, 0, 0, 2147483647, 0, 0, 0, 0, 0, 2147483648},
+        {0, 0, NO_NUMBER, NO_NUMBER, NO_NUMBER, NO_NUMBER, 0, 0, NO_NUMBER, NO_NUMBER, NO_NUMBER, 0},
+        {0, 0, 0, 0, 0, NO_NUMBER, 0, 0, 0, 0, NO_NUMBER, NO_NUMBER},
+        {0, 0, 0, 0, 0, NO_NUMBER, 0, 0, 0, NO_NUMBER, 0, NO_NUMBER},
+        {0, 0, 0, 0, 0, NO_NUMBER, 0, 0, NO_NUMBER, 0, 0, NO_NUMBER},
+        {0, 0, 0, 0, 0, NO_NUMBER, 0, NO_NUMBER, 0, 0, 0, 0},
+        {0, 0, 0, 0, 0, NO_NUMBER, NO_NUMBER, 0, 0, 0, 0, 0},
+    };
+    smap_bytes out = {0};
+    size_t wrong;
+    for (size_t i = 0; i < sizeof rows / sizeof *rows; i++) {
+        wrong = 9;
+        CHECK(smap_spell(rows[i], 1, &out, &wrong) == SMAP_OK && wrong == 9 && out.is_open);
+        smap_bytes_free(&out);
+        CHECK(smap_spell(rows[i], 2, &out, &wrong) == SMAP_RANGE && wrong == 1 && !out.is_open);
+    }
+}
+
+static void spellings(void)
+{
+    /* The first in order is AAECA: column 0, source 0, line 2, column 1, name 0. On line 1 ICFD is column 4 and
+     * 1, -2, -1 more; ADKA the same column and -1, 5, 0 more. On line 6 E is column 2. */
+    uint32_t numbers[6 * GIVEN] = {
+        1, 4, 1, 0, 0, NO_NUMBER, 0, 0, 0, 2, 1, 0,
+        1, 4, 0, 5, 0, NO_NUMBER, 6, 2, NO_NUMBER, NO_NUMBER, NO_NUMBER, NO_NUMBER,
+    };
+    uint32_t (*const spell)(const uint32_t *, size_t, smap_bytes *, size_t *) = smap_spell;
+    smap_bytes out = {0};
+    size_t wrong = 9;
+    CHECK(smap_spell(NULL, 0, &out, NULL) == SMAP_OK && holds(&out, ""));
+    CHECK(smap_spell(numbers, GIVEN, &out, &wrong) == SMAP_OK && holds(&out, "AAECA;ICFD,ADKA;;;;;E"));
+    CHECK(wrong == 9);
+    numbers[2 * 6 + 1] = 2147483648;
+    CHECK(smap_spell(numbers, GIVEN, &out, &wrong) == SMAP_RANGE && wrong == 2);
+    CHECK(spell(numbers, GIVEN, &out, NULL) == SMAP_RANGE && holds(&out, "AAECA;ICFD,ADKA;;;;;E"));
+    CHECK(spell(numbers, 2, &out, NULL) == SMAP_OK && holds(&out, "AAECA;ICFD"));
+    smap_bytes_free(&out);
+    wrong_numbers();
+}
+
 /* What a program may have kept the address of takes NULL too. */
 static void by_address(smap_map *map)
 {
@@ -115,6 +167,7 @@ int main(void)
     maps(&map);
     traces(&map);
     links();
+    spellings();
     by_address(&map);
     strictly(&map);
     smap_close(&map);

@@ -3,7 +3,7 @@
 mod smap;
 
 use smap::{Candidate, Counts, Error, FileKind, Limits, Line, ListedMapping, Map, Mapping, Named, Scripts};
-use smap::{TraceCounts, TraceOptions};
+use smap::{SpellError, TraceCounts, TraceOptions};
 
 const BASE: &str = "http://h/m/out.js.map";
 const TEXT: &[u8] = br#"{"version":3,"file":"out.js","sources":["a.js","b.js","a.js",null],
@@ -167,6 +167,17 @@ fn compositions(map: &Map) -> Result<(), Error> {
     Ok(())
 }
 
+fn spellings() {
+    const NONE: u32 = u32::MAX;
+    let mut mappings =
+        [[1, 4, 1, 0, 0, NONE], [0, 0, 0, 2, 1, 0], [1, 4, 0, 5, 0, NONE], [6, 2, NONE, NONE, NONE, NONE]];
+    assert_eq!(smap::spell(&mappings), Ok(b"AAECA;ICFD,ADKA;;;;;E".to_vec()));
+    assert_eq!(smap::spell(&[]), Ok(Vec::new()));
+    mappings[2][1] = 1 << 31;
+    let wrong = smap::spell(&mappings).unwrap_err();
+    assert_eq!((wrong, wrong.to_string().as_str()), (SpellError::Wrong(2), "mapping 2: number out of range"));
+}
+
 fn names_of_maps() {
     let named = |text: &[u8]| smap::named_map(b"http://h/m/", b"a.js", text).unwrap();
     let rows: [(&[u8], Named); 8] = [
@@ -202,6 +213,7 @@ fn main() -> Result<(), Error> {
     compositions(&map)?;
     fields()?;
     fields_of_a_fault();
+    spellings();
     names_of_maps();
     let other = map.share()?;
     let found = std::thread::spawn(move || other.lookup(0, 5)).join().unwrap();

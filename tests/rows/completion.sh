@@ -3,7 +3,7 @@
 
 completion=$rows/../../packaging/completion
 
-commands_of_maps="check tidy flatten lint repair extract comment inline outline contents rename debug-id diff"
+commands_of_maps="check tidy flatten lint repair compose extract comment inline outline contents rename debug-id diff"
 
 # The programs, and the commands of two of them.
 all_commands() {

@@ -170,6 +170,22 @@ static napi_value do_respell(napi_env env, napi_callback_info info)
     return bytes_out(env, &bytes, false);
 }
 
+/* spell(numbers): a string, or the index of the first mapping that is wrong */
+static napi_value do_spell(napi_env env, napi_callback_info info)
+{
+    uint32_t *numbers;
+    size_t len, wrong;
+    napi_value index;
+    smap_bytes bytes = {0};
+    ARGUMENTS(1);
+    if (!words_of(env, w[0], &numbers, &len)) return NULL;
+    uint32_t code = smap_spell(numbers, len / 6, &bytes, &wrong);
+    if (code == SMAP_OK) return bytes_out(env, &bytes, false);
+    if (code != SMAP_RANGE) return throw_code(env, code, NULL);
+    CALL(napi_create_int64(env, (int64_t)wrong, &index));
+    return index;
+}
+
 const call question_calls[] = {
     {"lookup", do_lookup},
     {"listedAt", do_listed_at},
@@ -178,5 +194,6 @@ const call question_calls[] = {
     {"flags", do_flags},
     {"table", do_table},
     {"respell", do_respell},
+    {"spell", do_spell},
     {NULL, NULL},
 };

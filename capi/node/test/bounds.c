@@ -59,6 +59,17 @@ uint32_t __wrap_smap_respell_strict(const char *text, size_t len, smap_bytes *ou
     return code;
 }
 
+uint32_t __real_smap_spell_strict(const uint32_t *numbers, size_t mappings, smap_bytes *out, size_t *wrong);
+uint32_t __wrap_smap_spell_strict(const uint32_t *numbers, size_t mappings, smap_bytes *out, size_t *wrong);
+
+uint32_t __wrap_smap_spell_strict(const uint32_t *numbers, size_t mappings, smap_bytes *out, size_t *wrong)
+{
+    read_all(numbers, 24 * mappings);
+    uint32_t code = __real_smap_spell_strict(numbers, mappings, out, wrong);
+    read_all(numbers, 24 * mappings);
+    return code;
+}
+
 uint32_t __real_smap_frame_strict(const void *line, size_t len, smap_frame_parts *out);
 uint32_t __wrap_smap_frame_strict(const void *line, size_t len, smap_frame_parts *out);
 

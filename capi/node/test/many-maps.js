@@ -1,6 +1,6 @@
 'use strict';
 // Maps that are made at random, always the same ones, and questions about them.
-const { encode } = require('../vlq.js');
+const { encode } = require('./vlq.js');
 
 /** Whole numbers below a bound, by a linear congruential generator. */
 function numbers(seed) {

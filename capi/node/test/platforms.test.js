@@ -96,6 +96,7 @@ test('an addon that cannot be loaded', () => {
 const LAYERS = [
   ['smap/source-map', 'source-map', '0.6.1', 'source-map 0.6'],
   ['smap/trace-mapping', '@jridgewell/trace-mapping', '0.3.25', '@jridgewell/trace-mapping'],
+  ['smap/gen-mapping', '@jridgewell/gen-mapping', '0.3.5', '@jridgewell/gen-mapping'],
   ['smap/support', 'source-map-support', '0.5.21', 'source-map-support'],
 ];
 
@@ -141,7 +142,8 @@ for (const [where, message] of Object.entries(MISSING)) {
     for (const line of [main, worker]) assert.match(line, /\/dist\/a\.ts:1[13]:\d+/);
     assert.deepEqual([more, err, status], [[''], '', 0]);
     const layers = LAYERS.map(([layer, name]) => `require('${layer}') === require('${name}')`);
-    assert.equal(run([...preload, '--eval', `console.log(${layers})`]).out, 'false false false\n');
+    const { out: same } = run([...preload, '--eval', `console.log(${layers})`]);
+    assert.equal(same, `${LAYERS.map(() => false).join(' ')}\n`);
   });
 
   test(`what is missing is said where WebAssembly doesn't run either: ${where}`, wasm, () => {

@@ -3,11 +3,12 @@
 const assert = require('node:assert');
 const { Worker } = require('node:worker_threads');
 const {
-  SourceMap, Scripts, SmapError, translate, frame, respell,
+  SourceMap, Scripts, SmapError, translate, frame, respell, spell,
   scriptLink, resolveLink, inlineMap, fileUrl, filePath, scriptUrl, scriptName, normalForm, areAlike,
 } = require('smap');
 const tracing = require('smap/trace-mapping');
-const { SourceMapConsumer } = require('smap/source-map');
+const making = require('smap/gen-mapping');
+const { SourceMapConsumer, SourceMapGenerator } = require('smap/source-map');
 const { isWellFormed } = require('../halves.js');
 const native = require('../native.js');
 const { makeMap, numbers } = require('./many-maps.js');
@@ -283,6 +284,11 @@ const CALLS_OF = {
   frame: given => frame(given.next(2) ? given.log() : given.string()),
   links: given => LINK_CALLS[given.one(Object.keys(LINK_CALLS))](given),
   respell: given => respell(given.next(2) ? given.string() : given.bytes(given.string())),
+  spell(given) {
+    const number = () => (given.next(40) ? given.next(9) : 2 ** 32 - 1 - given.next(3));
+    const text = spell(Uint32Array.from({ length: 6 * given.next(9) }, number));
+    assert.equal(respell(text), text);
+  },
   tracing(given) {
     const map = given.map();
     if (map && given.next(2)) map.mappings = given.decoded();
@@ -304,6 +310,19 @@ const CALLS_OF = {
     consumer.originalPositionFor({ line: given.number(), column: given.number() });
     consumer.sourceContentFor(given.string(), true);
     consumer.destroy();
+  },
+  making(given) {
+    const map = new making.GenMapping(), generator = new SourceMapGenerator();
+    const at = () => ({ line: 1 + given.next(3), column: given.next(9) });
+    for (let i = given.next(20); i > 0; i--) {
+      const mapping = { generated: at(), original: at(), source: given.one(PIECES), name: given.one(VALUES) };
+      given.one([making.addMapping, making.maybeAddMapping])(map, mapping);
+      generator.addMapping(mapping);
+    }
+    const made = [making.toEncodedMap(map), generator.toJSON()];
+    for (const { mappings } of made) assert.equal(respell(mappings), mappings);
+    making.addSegment(map, given.number(), given.number(), given.value(), given.number(), given.number());
+    making.toDecodedMap(making.fromMap(given.one(made)));
   },
   native(given) {
     // a number that is taken at random may be one that another thread waits for

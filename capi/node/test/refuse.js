@@ -3,7 +3,7 @@
 // test build of build.sh: see tests/node/run.
 const assert = require('node:assert');
 const {
-  SourceMap, Scripts, translate, frame, respell,
+  SourceMap, Scripts, translate, frame, respell, spell,
   scriptLink, resolveLink, inlineMap, fileUrl, filePath, scriptUrl, scriptName, normalForm, areAlike,
 } = require('smap');
 const native = require('../native.js');
@@ -11,6 +11,7 @@ const native = require('../native.js');
 const BASE = 'http://h/m/out.js.map';
 const SCRIPT = 'http://h/m/out.js';
 const long = 'x'.repeat(5000);
+const none = 2 ** 32 - 1;
 const text = JSON.stringify({
   version: 3, file: 'o', sources: ['a.js', long], sourcesContent: ['A', long], names: ['n', long],
   mappings: 'AAUE,IAEAA;ACAAC',
@@ -47,7 +48,7 @@ const CALLS = {
 };
 
 // Here the library asks for room ahead as well, and does without it.
-const LINK_CALLS = {
+const CALLS_AHEAD = {
   scriptLink: () => assert.equal(scriptLink(`//# sourceMappingURL=${long}`), long),
   resolveLink: () => assert.equal(resolveLink(`/${long}/a.js`, 'b.map'), `file:///${long}/b.map`),
   inlineMap: () => assert.equal(inlineMap(`data:;base64,${btoa(long)}`).toString(), long),
@@ -61,6 +62,7 @@ const LINK_CALLS = {
     assert.deepEqual(next, [3, Buffer.from(`${long}.map`)]);
   },
   areAlike: () => assert.equal(areAlike(`${SCRIPT}?${long}`, `${SCRIPT}#${long}`), true),
+  spell: () => assert.equal(spell(Uint32Array.of(0, 1, 0, 0, 0, none, 0, 0, 0, 0, 0, none)), 'AAAA,CAAA'),
 };
 
 // A refused request isn't taken for the error that a call expects.
@@ -85,7 +87,7 @@ function refuseEach(name, call) {
       return n;
     }
     const isRefused = thrown?.code === 'SMAP_MEMORY';
-    assert.ok(isRefused || (!thrown && name in LINK_CALLS), `${name}, request ${n}: ${thrown}`);
+    assert.ok(isRefused || (!thrown && name in CALLS_AHEAD), `${name}, request ${n}: ${thrown}`);
     refused += isRefused;
     call();
   }
@@ -130,7 +132,7 @@ function heldIsNear(name, text) {
 async function main() {
   for (const [name, text] of Object.entries(HELD)) heldIsNear(name, text);
   let count = 0;
-  const calls = Object.entries({ ...CALLS, ...LINK_CALLS });
+  const calls = Object.entries({ ...CALLS, ...CALLS_AHEAD });
   for (const [name, call] of calls) count += refuseEach(name, call);
   await refuseLater();
   assert.ok(count > 100, `${count} requests`);

@@ -2,7 +2,7 @@
 const assert = require('node:assert');
 const { test } = require('node:test');
 const ours = require('smap/source-map');
-const { encode } = require('../vlq.js');
+const { encode } = require('./vlq.js');
 const { makeMap } = require('./many-maps.js');
 const { peer, needs } = require('./peers.js');
 const { isQuick } = require('./quick.js');

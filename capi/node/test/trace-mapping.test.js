@@ -2,7 +2,7 @@
 const assert = require('node:assert');
 const { test } = require('node:test');
 const ours = require('smap/trace-mapping');
-const { encode } = require('../vlq.js');
+const { encode } = require('./vlq.js');
 const { makeMap, numbers } = require('./many-maps.js');
 const { peer, needs } = require('./peers.js');
 const { isQuick } = require('./quick.js');
@@ -136,6 +136,10 @@ test('mappings may be segments, and the map a map that was read', () => {
   const decoded = new ours.TraceMap({ ...map, mappings: ours.decodedMappings(traced) });
   assert.deepEqual(ours.decodedMappings(decoded), ours.decodedMappings(traced));
   assert.equal(ours.encodedMap(decoded).mappings, map.mappings);
+  const lines = [[[1], [2, 0, 0, 0]], [], []];
+  assert.deepEqual(ours.decodedMappings(new ours.TraceMap({ ...map, mappings: lines })), lines);
+  const turned = [lines[0].slice().reverse()];
+  assert.deepEqual(ours.decodedMappings(new ours.TraceMap({ ...map, mappings: turned })), [lines[0]]);
   assert.deepEqual(ours.decodedMap(traced).sources, map.sources);
 });
 

@@ -1,11 +1,14 @@
 // What the types have to allow, and what they have to refuse.
 import {
-  SourceMap, Scripts, SmapError, translate, frame, respell,
+  SourceMap, Scripts, SmapError, translate, frame, respell, spell,
   scriptLink, resolveLink, inlineMap, fileUrl, filePath, scriptUrl, scriptName, normalForm, areAlike,
   version,
 } from 'smap';
 import { TraceMap, originalPositionFor, LEAST_UPPER_BOUND, type Segment } from 'smap/trace-mapping';
-import { SourceMapConsumer, BasicSourceMapConsumer } from 'smap/source-map';
+import {
+  GenMapping, addMapping, addSegment, fromMap, setIgnore, toDecodedMap, toEncodedMap,
+} from 'smap/gen-mapping';
+import { SourceMapConsumer, BasicSourceMapConsumer, SourceMapGenerator, SourceNode } from 'smap/source-map';
 import { install, type Options } from 'smap/support';
 import 'smap/register';
 
@@ -25,7 +28,7 @@ const scripts = new Scripts({ a: map }).add(new URL('http://h/'), SourceMap.take
 const { lines }: { lines: number } = scripts.translateAndCount(log);
 const told: string = translate(text, new Map([['a', map]]));
 const parts: { url: string; line: number; column: number } | null = frame(told);
-const short: string = respell(version);
+const short: string = respell(version) + spell(new Uint32Array(6));
 const columns: Int32Array = map.table().column;
 const link: string | null = scriptLink('f()', { css: true });
 const inline: Uint8Array | null = inlineMap(resolveLink(new URL('http://h/a.js'), link ?? 'a.map'));
@@ -44,6 +47,16 @@ const original = originalPositionFor(new TraceMap({}, null), { line: 1, column: 
 const consumer: SourceMapConsumer = new BasicSourceMapConsumer('{}');
 const options: Options = { retrieveSourceMap: script => ({ url: script, map: '{}' }), hookRequire: true };
 install(options);
+const made: GenMapping = fromMap(toEncodedMap(new GenMapping({ file: 'f.js' })));
+addSegment(made, 0, 0, 'a.js', 0, 0, 'n', 'text');
+addMapping(made, { generated: { line: 1, column: 1 } });
+setIgnore(made, 'a.js');
+const column: number = toDecodedMap(made).mappings[0][0][0];
+const generator: SourceMapGenerator = SourceMapGenerator.fromSourceMap(consumer);
+generator.addMapping({ generated: { line: 1, column }, source: 'a.js', original: { line: 1, column: 0 } });
+generator.applySourceMap(SourceMapConsumer.fromSourceMap(generator), 'a.js');
+const node: SourceNode = new SourceNode(1, 0, 'a.js', ['f', new SourceNode()]).add('()');
+console.log(node.toStringWithSourceMap().map.toJSON().mappings);
 console.log(later, lines, parts, short, columns, handle, segment, original.name, consumer.sources);
 console.log(inline, file, below, alike);
 
@@ -61,5 +74,9 @@ const name: string = scriptName('/s/', '/s/a.js');
 if (handle instanceof SmapError && handle.kind === 'Nothing') console.log(map);
 // @ts-expect-error: a map's counts can't be written
 map.counts = null;
+// @ts-expect-error: a source without its position
+addMapping(made, { generated: { line: 1, column: 0 }, source: 'a.js' });
+// @ts-expect-error: an original without its source
+generator.addMapping({ generated: { line: 1, column: 0 }, original: { line: 1, column: 0 } });
 // @ts-expect-error: a bias is -1 or 1
 originalPositionFor(new TraceMap('{}'), { line: 1, column: 0, bias: 2 });

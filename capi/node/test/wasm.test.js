@@ -70,6 +70,7 @@ test('memory that ends: each call says so, and works once there is more', is, ()
     flatten: () => native.flatten(rows, true),
     translate: () => native.translate(scripts, long, 0, false)[0],
     respell: () => native.respell(JSON.parse(large).mappings),
+    spell: () => native.spell(new Uint32Array(6 * 20000)),
     table: () => native.table(rows, new Int32Array(6 * 20001)),
     link: () => native.fileUrl('/' + 'x'.repeat(200000)),
   };

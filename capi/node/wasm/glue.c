@@ -278,6 +278,15 @@ uint32_t js_respell(double text, double len)
     return put_fault(give(smap_respell(AT(char, text), (size_t)len, &given, &fault)), &fault);
 }
 
+/* The first of `counts` is the index of a mapping that is wrong. */
+uint32_t js_spell(double numbers, double mappings)
+{
+    size_t wrong = 0;
+    uint32_t code = smap_spell(AT(uint32_t, numbers), (size_t)mappings, &given, &wrong);
+    out.counts[0] = (double)wrong;
+    return give(code);
+}
+
 /* ---- traces */
 
 uint32_t js_add_script(double scripts, double url, double len, double box)

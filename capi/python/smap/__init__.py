@@ -24,7 +24,7 @@ from .frames import code_point
 from .links import alike, data_url, file_path, file_url, normal_form, resolve, script_link, script_name
 from .links import script_url
 from .logs import StoreCounts
-from .maps import Map, Mapping, Source, respell
+from .maps import Map, Mapping, Source, respell, spell
 from .store import Store
 from .traces import Frame, Scripts, frame, named_scripts, translate
 
@@ -32,7 +32,7 @@ __all__ = ["Counts", "Error", "Folders", "Found", "Frame", "Map", "Mapping", "Ou
 __all__ += ["OutsideFolderError", "Refused", "RefusedError", "Repeated", "RepeatedError", "Scripts", "Source"]
 __all__ += ["Store", "StoreCounts", "TraceCounts", "alike", "code_point", "data_url", "file_path", "file_url"]
 __all__ += ["frame", "named_scripts", "normal_form", "resolve", "respell", "script_link", "script_name"]
-__all__ += ["script_url", "translate", "version"]
+__all__ += ["script_url", "spell", "translate", "version"]
 
 # That of the package; `version` is the library's, which has three numbers alone.
 __version__ = "0.3.0.dev0"

@@ -173,6 +173,7 @@ FUNCTIONS: List[Tuple[Any, ...]] = [
     ("smap_canonical_mappings", c_uint32, POINTER(Map), POINTER(Bytes)),
     ("smap_flatten", c_uint32, POINTER(Map), POINTER(Bytes)),
     ("smap_respell", c_uint32, c_char_p, c_size_t, POINTER(Bytes), POINTER(Fault)),
+    ("smap_spell", c_uint32, POINTER(c_uint32), c_size_t, POINTER(Bytes), POINTER(c_size_t)),
     ("smap_frame", c_uint32, c_char_p, c_size_t, POINTER(FrameParts)),
     (
         "smap_translate_line", c_uint32, POINTER(Map), c_char_p, c_size_t, c_char_p, c_size_t, c_uint8,

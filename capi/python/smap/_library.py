@@ -6,9 +6,10 @@ import ctypes
 import operator
 import os
 import threading
+from array import array
 from ctypes import POINTER, addressof, byref, c_char, c_size_t, c_uint8
 from pathlib import Path
-from typing import Any, Callable, ClassVar, NoReturn, Optional, Tuple, Type, TypeVar
+from typing import Any, Callable, ClassVar, Iterable, NoReturn, Optional, Tuple, Type, TypeVar, Union
 
 from . import _declarations as declared
 from ._declarations import ANYWHERE, HIDE_IGNORED, IGNORE_QUERY, LIMITS, MEMORY, NAMES, OK, RANGE, REFUSED
@@ -198,6 +199,18 @@ def as_data(name: str, value: bytes) -> bytes:
     if isinstance(value, (bytearray, memoryview)):
         return bytes(value)
     raise TypeError(f"{name} is bytes, not {type(value).__name__}")
+
+
+def as_words(numbers: Union[bytes, Iterable[int]]) -> bytes:
+    """Numbers of 32 bits for the library. Raises TypeError where they are none, and OverflowError where they
+    have more bits."""
+    try:
+        view = memoryview(numbers)  # type: ignore[arg-type]
+    except TypeError:
+        view = memoryview(array("I", numbers))
+    if view.itemsize > 1 and view.format not in ("I", "<I"):
+        view = memoryview(array("I", view.tolist()))
+    return view.tobytes()
 
 
 def as_url(name: str, value: str) -> bytes:

@@ -5,17 +5,17 @@ from __future__ import annotations
 import os
 from ctypes import byref, c_bool, c_size_t, c_uint32, create_string_buffer
 from dataclasses import dataclass
-from typing import AnyStr, Callable, Dict, Iterator, List, Optional, Tuple, Union
+from typing import AnyStr, Callable, Dict, Iterable, Iterator, List, Optional, Tuple, Union
 
 from . import _declarations as declared
-from ._declarations import DROPPED, NONE
-from ._library import LARGEST_SIZE, Counts, Owner, are_position, as_data, as_url, bound_of, check, how_bits
-from ._library import index_of, lib, limit_of, taken, written
+from ._declarations import DROPPED, NONE, RANGE
+from ._library import LARGEST_SIZE, Counts, Error, Owner, are_position, as_data, as_url, as_words, bound_of
+from ._library import check, how_bits, index_of, lib, limit_of, taken, written
 from .files import read_file
 from .links import file_url
 from .traces import translate
 
-__all__ = ["Map", "Mapping", "Source", "respell"]
+__all__ = ["Map", "Mapping", "Source", "respell", "spell"]
 
 
 @dataclass(frozen=True)
@@ -46,6 +46,30 @@ def respell(text: bytes) -> bytes:
     """A mappings text, sorted and as short as possible. Raises RefusedError."""
     text, out, fault = as_data("a mappings text", text), declared.Bytes(), declared.Fault()
     check(lib.smap_respell(text, len(text), byref(out), byref(fault)), fault)
+    return taken(out)
+
+
+def spell(numbers: Union[bytes, Iterable[int]]) -> bytes:
+    """The mappings text of mappings, sorted and as short as possible.
+
+    Each has six numbers, one after another and each from 0: the generated line and column, the source,
+    its line and column, and the name. 4294967295 stands for none: the last four in a mapping without an
+    original, the last one in one without a name. They are numbers of 32 bits in an `array("I")` or
+    another buffer, bytes with four for each, or any ints. Mappings may come in any order; those at one
+    position keep it.
+
+    Error, whose code is 7 (SMAP_RANGE of smap.h), names the first mapping that has other numbers, as one
+    above 2147483647. Numbers of more bits raise OverflowError, and a part of a mapping ValueError.
+    """
+    data, out, wrong = as_words(numbers), declared.Bytes(), c_size_t()
+    count, rest = divmod(len(data), 24)
+    if rest:
+        raise ValueError("mappings have six numbers each")
+    words = (c_uint32 * max(6 * count, 1)).from_buffer_copy(data or bytes(4))
+    code = lib.smap_spell(words, count, byref(out), byref(wrong))
+    if code == RANGE:
+        raise Error(code, f"mapping {wrong.value}: number out of range")
+    check(code)
     return taken(out)
 
 

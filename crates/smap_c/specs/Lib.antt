@@ -12,6 +12,7 @@ pub mod Order
 pub mod Owned
 pub mod Scripts
 pub mod Sources
+pub mod Spelling
 pub mod Threads
 pub mod Traces
 pub mod Version

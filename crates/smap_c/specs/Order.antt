@@ -1,6 +1,7 @@
 -- The fields of each struct that crosses to C, in the order in which they lie in it, as in `smap.h`.
 -- tools/write-bindings writes those of structs that are no handles out of capi/smap.h.
 use Rattle.std.specs.Prelude.{◌≡◌}
+use Rattle.smap_c_answers.specs.declared.spelling.MappingNumbers.{MappingNumbers}
 use Rattle.smap_c.specs.declared.faults.SmapFault.{SmapFault}
 use Rattle.smap_c.specs.declared.handles.Owner.{Owner}
 use Rattle.smap_c.specs.declared.handles.SmapBytes.{SmapBytes}
@@ -12,6 +13,7 @@ use Rattle.smap_c.specs.declared.maps.SmapCounts.{SmapCounts}
 use Rattle.smap_c.specs.declared.maps.SmapLimits.{SmapLimits}
 use Rattle.smap_c.specs.declared.scripts.SmapTraceCounts.{SmapTraceCounts}
 use Rattle.smap_c.specs.declared.traces.SmapFrameParts.{SmapFrameParts}
+use Rattle.smap_c_answers.specs.contracts.spelling.MappingNumbers as numbers
 use Rattle.smap_c.specs.contracts.faults.SmapFault as fault
 use Rattle.smap_c.specs.contracts.handles.Owner as owner
 use Rattle.smap_c.specs.contracts.handles.SmapBytes as bytes
@@ -58,6 +60,12 @@ FrameOrder = (f : SmapFrameParts) → frame.the_type.as_values f
 abbrev pub TraceCountsOrder : Type 0
 TraceCountsOrder = (c : SmapTraceCounts) → trace_counts.the_type.as_values c
     ≡ c.lines then c.translated then c.dropped then tt
+
+-- ---- the numbers of a mapping, which are no struct in `smap.h`: they follow one another in an array
+
+abbrev pub NumbersOrder : Type 0
+NumbersOrder = (n : MappingNumbers) → numbers.the_type.as_values n
+    ≡ n.line then n.column then n.source then n.source_line then n.source_column then n.name then tt
 
 -- ---- handles: a flag, and a pointer beside an allocator, which takes no room
 

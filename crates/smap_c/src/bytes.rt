@@ -77,7 +77,7 @@ pub extern "C" fn smap_bytes_free(alloc: Global, bytes: &mut SmapBytes)
 }
 
 /// Puts bytes into a handle.
-fn put(alloc: Global, answer: Result<Vec<u8>, Memory>, out: &mut SmapBytes) -> u32
+pub(crate) fn put(alloc: Global, answer: Result<Vec<u8>, Memory>, out: &mut SmapBytes) -> u32
     ensures { Puts answer (held_bytes out.old.owner.value) (held_bytes out.new.owner.value) result }
 {
     let Ok(bytes) = answer else {

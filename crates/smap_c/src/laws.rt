@@ -1,8 +1,8 @@
 //! What holds of the structs that cross to C, and of calls as they were in version 0.1.
 ghost use Rattle.std.specs.Prelude.{false, true};
 ghost use Rattle.smap_c.specs.Order.{BytesOrder, CountsOrder, FaultOrder, FrameOrder, LimitsOrder};
-ghost use Rattle.smap_c.specs.Order.{ListedOrder, MapOrder, MappingOrder, OwnerOrder, ScriptsOrder};
-ghost use Rattle.smap_c.specs.Order.{TraceCountsOrder};
+ghost use Rattle.smap_c.specs.Order.{ListedOrder, MapOrder, MappingOrder, NumbersOrder, OwnerOrder};
+ghost use Rattle.smap_c.specs.Order.{ScriptsOrder, TraceCountsOrder};
 ghost use Rattle.smap_c.specs.Traces.{AsksByBool};
 
 /// The fields of each struct lie in the order in which C declares them.
@@ -14,6 +14,7 @@ pub fn fields_in_order()
     ensures listed { ListedOrder }
     ensures frame { FrameOrder }
     ensures trace_counts { TraceCountsOrder }
+    ensures numbers { NumbersOrder }
 {}
 
 /// The same of the handles, whose pointer lies in what they own.

@@ -19,6 +19,7 @@ mod named;
 mod opened;
 mod scripts;
 mod sources;
+mod spelling;
 mod threads;
 mod traces;
 mod version;

@@ -1,2 +1,4 @@
+mod Examples
 pub mod FaultLemmas
 pub mod MemoryLemmas
+pub mod SpellingLemmas

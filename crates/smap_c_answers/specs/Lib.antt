@@ -4,4 +4,5 @@ pub mod FaultWords
 pub mod FileKinds
 pub mod Memory
 pub mod Named
+pub mod Spelling
 pub mod Strings

@@ -23,7 +23,7 @@ pub const CLOSED: u32 = 5;
 /// There is no such thing: no mapping there, no URL, no content, no name, no file.
 pub const NONE: u32 = 6;
 
-/// The number is not below the count.
+/// The number is not below the count, or no mapping has such numbers.
 pub const RANGE: u32 = 7;
 
 /// The URLs of the sources take more bytes than they may.

@@ -1,5 +1,6 @@
 //! What the calls of the C library come to, apart from its handles: their codes, what they copy into a
-//! buffer, what they answer about URLs and names, the words of a fault, and how much memory a map takes.
+//! buffer, what they answer about URLs and names, the words of a fault, how much memory a map takes, and the
+//! mappings string of mappings that are given as numbers.
 #![tactic(auto)]
 
 mod answers;
@@ -7,6 +8,7 @@ mod codes;
 mod fault_words;
 mod memory;
 mod named;
+mod spelling;
 mod strings;
 
 pub use answers::{
@@ -20,4 +22,5 @@ pub use codes::{
 pub use fault_words::fault_text;
 pub use memory::memory_of;
 pub use named::{number_of, number_of_kind};
+pub use spelling::{MappingNumbers, first_wrong, spelled};
 pub use strings::{copy_out, report_bytes, report_text};

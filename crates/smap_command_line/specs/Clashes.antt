@@ -69,6 +69,8 @@ abbrev pub lacking : List Row → MapsCommand → Option Clash
 lacking rows command.Tidy = unless (not (is_set (codes "drop") rows) || is_set (codes "write") rows) DropAlone
 lacking rows command.Flatten =
     unless (not (is_set (codes "drop") rows) || is_set (codes "write") rows) DropAlone
+lacking rows command.Compose =
+    unless (not (is_set (codes "drop") rows) || is_set (codes "write") rows) DropAlone
 lacking rows command.Contents = unless (is_set (codes "add") rows || is_set (codes "drop") rows) NoContents
 lacking rows command.Rename =
     unless (has_value (codes "source-prefix") rows || is_set (codes "strip-common") rows) NoRename

@@ -43,6 +43,7 @@ command_named name =
     (if bytes_eq name (codes "flatten") then Some command.Flatten else
     (if bytes_eq name (codes "lint") then Some command.Lint else
     (if bytes_eq name (codes "repair") then Some command.Repair else
+    (if bytes_eq name (codes "compose") then Some command.Compose else
     (if bytes_eq name (codes "extract") then Some command.Extract else
     (if bytes_eq name (codes "comment") then Some command.Comment else
     (if bytes_eq name (codes "inline") then Some command.Inline else
@@ -50,7 +51,7 @@ command_named name =
     (if bytes_eq name (codes "contents") then Some command.Contents else
     (if bytes_eq name (codes "rename") then Some command.Rename else
     (if bytes_eq name (codes "debug-id") then Some command.DebugId else
-    (if bytes_eq name (codes "diff") then Some command.Diff else None))))))))))))
+    (if bytes_eq name (codes "diff") then Some command.Diff else None)))))))))))))
 
 -- The first argument is the command, and those behind it are paths.
 abbrev pub command_asked : List Text → Option MapsCommand

@@ -55,6 +55,7 @@ is_command_of c command.Tidy = c.tidy
 is_command_of c command.Flatten = c.flatten
 is_command_of c command.Lint = c.lint
 is_command_of c command.Repair = c.repair
+is_command_of c command.Compose = c.compose
 is_command_of c command.Extract = c.extract
 is_command_of c command.Comment = c.comment
 is_command_of c command.Inline = c.inline

@@ -1,5 +1,6 @@
 pub mod ChainLemmas
 pub mod ClosingLemmas
+pub mod DeepLemmas
 mod Examples
 pub mod FitLemmas
 pub mod LeadingLemmas

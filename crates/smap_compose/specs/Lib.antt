@@ -1,6 +1,7 @@
 pub mod Chain
 pub mod Closed
 pub mod Composing
+pub mod Deep
 pub mod Following
 pub mod Kept
 pub mod Laws

@@ -7,6 +7,7 @@
 
 mod chain;
 mod composing;
+mod deep;
 mod error;
 mod following;
 mod joining;
@@ -18,6 +19,7 @@ mod using;
 
 pub use chain::compose_chain;
 pub use composing::compose;
+pub use deep::compose_deep;
 pub use error::ComposeError;
 pub use leading::first_unled;
 pub use thinning::thin;

@@ -1,7 +1,7 @@
 -- Steps of walks over the numbers of mappings.
 use Rattle.std.proofs.Common.{◌≡◌, ◌∙◌, ℕ, ◌+◌, ◌<◌, ◌≤◌, Bool, true, List, ◌∷◌, length, take, drop, get_or}
-use Rattle.std.proofs.Common.{Option, Some, cond, refl, arith, add-one, zero-add, not, length-take, filter, find}
-use Rattle.std.proofs.Common.{false}
+use Rattle.std.proofs.Common.{Option, Some, cond, refl, arith, add-one, zero-add, not, length-take, filter}
+use Rattle.std.proofs.Common.{false, find}
 use Rattle.std.specs.List.{range_with_len}
 use Rattle.std.proofs.Math.Seq.{drop-cons, take-length}
 use Rattle.std.proofs.Math.ListN.{drop_of_length-le}

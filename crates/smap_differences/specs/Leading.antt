@@ -16,7 +16,8 @@ same_place o p = same_text o.source.url p.source.url
 -- whose positions have mappings of their own there is asked for.
 abbrev pub leaves : Bool → Mapping → Option Mapping → Bool
 leaves shared m None = is_some m.origin
-leaves shared m (Some n) = not (option_eq same_place m.origin n.origin) && (shared || not (n.column == m.column))
+leaves shared m (Some n) =
+    not (option_eq same_place m.origin n.origin) && (shared || not (n.column == m.column))
 
 abbrev pub is_elsewhere : Bool → Record → Mapping → Bool
 is_elsewhere shared other m = leaves shared m (mapping_at other.mappings m.line m.column)

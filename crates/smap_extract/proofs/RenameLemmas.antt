@@ -34,7 +34,8 @@ pub respelled_at : (ps : List Prefix) (old new : List Spelling) (i : ℕ)
     → slice_get new i ≡ slice_get (map (respelled ps) old) i
 respelled_at ps old new i source root new_source new_root o n so ro sn rn named rooted =
     slice_get-get_or new i none n ∙ ap Some same
-    ∙ sym (slice_get-map (respelled ps) old i ∙ ap (option_map (respelled ps)) (slice_get-get_or old i none o))
+    ∙ sym (slice_get-map (respelled ps) old i
+    ∙ ap (option_map (respelled ps)) (slice_get-get_or old i none o))
   where
     sources : (get_or new i none).source ≡ option_map (renamed ps) (get_or old i none).source
     sources = has (λ s. s.source) new i new_source n sn ∙ named

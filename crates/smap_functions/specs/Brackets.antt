@@ -24,7 +24,8 @@ closing b = if b == 40 then 41 else if b == 91 then 93 else 125
 abbrev pub closes : List ℕ → List ℕ → Bool
 closes [] [] = true
 closes (c ∷ awaited) [] = false
-closes [] (b ∷ text) = if is_opening b then closes (closing b ∷ []) text else not (is_closing b) && closes [] text
+closes [] (b ∷ text) =
+    if is_opening b then closes (closing b ∷ []) text else not (is_closing b) && closes [] text
 closes (c ∷ awaited) (b ∷ text) =
     if is_opening b then closes (closing b ∷ c ∷ awaited) text
     else if is_closing b then b == c && closes awaited text

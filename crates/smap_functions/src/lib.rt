@@ -1,8 +1,8 @@
 //! The functions of a text in JavaScript or TypeScript, with the names that a trace may say: their own, that
 //! of the variable or the key that they are given to, or that of their class's member.
 //!
-//! A scan reads the text once (`scan`), by tokens (`tokens`). What it finds is checked (`checked`), and so are
-//! the brackets of a text in which nothing may hide one (`matching`).
+//! A scan reads the text once (`scan`), by tokens (`tokens`). What it finds is checked (`checked`), and so
+//! are the brackets of a text in which nothing may hide one (`matching`).
 #![tactic(auto)]
 
 mod brackets;

@@ -1,10 +1,11 @@
 -- What the rules find in a map and in the script that has it, and what is said of it.
-use Rattle.std.specs.Prelude.{ℕ, ◌-◌, ◌*◌, ◌/◌, ◌^◌, ◌==◌, ◌||◌, Bool, List, [], ◌∷◌, ◌++◌, String}
+use Rattle.std.specs.Prelude.{ℕ, ◌+◌, ◌-◌, ◌*◌, ◌/◌, ◌^◌, ◌==◌, ◌||◌, Bool, List, [], ◌∷◌, ◌++◌, String}
 use Rattle.std.specs.Prelude.{bytes_eq, codes, cond, decimal, drop, is_some, length, map, min, nat_eq, nat_le}
 use Rattle.std.specs.Prelude.{Option, None, Some, option_and_then, option_map, slice_get, string_bytes, sum}
 use Rattle.std.specs.Prelude.{take, unwrap_or}
 use Rattle.std.specs.Char.{to_ascii_lowercase}
 use Rattle.std.specs.List.{filter, find, starts_with}
+use Rattle.std.specs.Option.{option_or}
 use Rattle.std.specs.declared.alloc.Global.{Global}
 use Rattle.smap_link.specs.Kinds.{link_in}
 use Rattle.smap_link.specs.Paths.{bare}
@@ -22,6 +23,7 @@ use Rattle.smap_lint_rules.specs.Wording.{counted, example, one_or_more, place, 
 use Rattle.smap_lint_rules.specs.declared.checks.Check.{Check}
 use Rattle.smap_lint_rules.specs.declared.checks.Check.TheVariants as check
 use Rattle.smap_lint_rules.specs.declared.members.Paths.{Paths}
+use Rattle.smap_lint_rules.specs.declared.originals.Chains.{Chains}
 use Rattle.smap_lint_rules.specs.declared.pair.Pair.{Pair}
 use Rattle.smap_lint_rules.specs.declared.remarks.Remark.{Remark}
 use Rattle.smap_lint_rules.specs.declared.pair.Script.{Script}
@@ -208,31 +210,47 @@ is_data url = bytes_eq (map to_ascii_lowercase (take 5 url)) (codes "data:")
 abbrev pub named_words : List ℕ → List ℕ
 named_words url = cond (is_data url) (codes "a map in itself") (printable url)
 
-abbrev pub open_example : List ℕ → Entry → List ℕ
-open_example folder e =
-    shown_url folder e ++ (codes " (" ++ (named_words (unwrap_or (own_map e) []) ++ codes ")"))
+-- a source, and what it names
+abbrev pub open_example : List ℕ → List ℕ → Entry → List ℕ
+open_example folder named e = shown_url folder e ++ (codes " (" ++ (named_words named ++ codes ")"))
 
-abbrev pub open_advice : List ℕ
-open_advice = codes "; the trace ends in generated text: have the bundler read that map"
-    ++ codes ", e.g. by source-map-loader or rollup-plugin-sourcemaps"
+-- how many of the maps that so many sources name can be followed
+abbrev pub followed : ℕ → ℕ → List ℕ
+followed count there = cond (there == 0)
+    (one_or_more count (codes "its map isn't") (codes "their maps aren't") ++ codes " there")
+    (codes "smap-maps compose follows " ++ cond (there == count)
+    (one_or_more count (codes "it") (codes "them")) (decimal there ++ codes " of them"))
 
-abbrev pub open_words : ℕ → ℕ → List ℕ → List ℕ
-open_words count total first = some_of count total (codes "source") ++ (codes " "
+abbrev pub open_words : ℕ → ℕ → ℕ → List ℕ → List ℕ
+open_words count total there first = some_of count total (codes "source") ++ (codes " "
     ++ (one_or_more count (codes "names a map of its own") (codes "name maps of their own")
-    ++ (example count first ++ open_advice)))
+    ++ (example count first ++ (codes "; positions lead to generated text: " ++ followed count there))))
 
--- open-chain: contents of sources name maps
-abbrev pub open_chains : ReadMap → List ℕ → Option (List ℕ)
-open_chains m folder = option_map
-    (λ e. open_words (length (filter names_map (record_of m).sources)) (length (record_of m).sources)
-    (open_example folder e))
+-- how many sources name maps, in their contents or in their files
+abbrev pub open_count : ReadMap → Chains → ℕ
+open_count m chains = limited (length (filter names_map (record_of m).sources) + chains.files.count)
+
+-- the first source whose content names a map
+abbrev pub open_content : ReadMap → List ℕ → Option (List ℕ)
+open_content m folder = option_map (λ e. open_example folder (unwrap_or (own_map e) []) e)
     (find names_map (record_of m).sources)
+
+-- the first one whose file does
+abbrev pub open_file : ReadMap → List ℕ → Chains → Option (List ℕ)
+open_file m folder chains =
+    option_map (open_example folder chains.named.now) (first_wrong m chains.files)
+
+-- open-chain: sources are scripts that name maps
+abbrev pub open_chains : ReadMap → List ℕ → Chains → Option (List ℕ)
+open_chains m folder chains =
+    option_map (open_words (open_count m chains) (length (record_of m).sources) chains.there)
+    (option_or (open_content m folder) (open_file m folder chains))
 
 abbrev pub of_sources : Pair → List Told
 of_sources p = noted check.OriginalPastEnd (originals_past_end p.map.now)
     ++ (noted check.MissingSource (missing_sources p.map.now p.folder.now p.missing)
     ++ (noted check.StaleContent (stale_contents p.map.now p.folder.now p.stale)
-    ++ noted check.OpenChain (open_chains p.map.now p.folder.now)))
+    ++ noted check.OpenChain (open_chains p.map.now p.folder.now p.chains)))
 
 -- ---- what the map lists
 

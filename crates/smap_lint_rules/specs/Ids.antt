@@ -1,7 +1,7 @@
 -- Debug ids (the proposal "Source Map Debug ID" for ECMA-426: a comment in the last five lines of the
 -- script, which a style sheet has closed).
-use Rattle.std.specs.Prelude.{ℕ, zero, suc, bytes_eq, map, ◌-◌, ◌==◌, ◌||◌, not, Bool, List, Option, None, Some}
-use Rattle.std.specs.Prelude.{codes, cond, drop, take, length, nat_eq}
+use Rattle.std.specs.Prelude.{ℕ, zero, suc, bytes_eq, map, ◌-◌, ◌==◌, ◌||◌, not, Bool, List, Option, None}
+use Rattle.std.specs.Prelude.{Some, codes, cond, drop, take, length, nat_eq}
 use Rattle.std.specs.Char.{is_ascii_whitespace, to_ascii_lowercase}
 use Rattle.std.specs.List.{prefix_len, starts_with, suffix_len}
 use Rattle.std.specs.Option.{option_or, option_and_then}

@@ -101,7 +101,7 @@ pub const RULES: [Rule; 20] = [
     Rule {
         name: "open-chain",
         level: Level::Warning,
-        summary: "The content of a source names a map of its own: traces end in generated text.",
+        summary: "A source is itself a script that names a map: positions lead to generated text.",
     },
     Rule {
         name: "machine-path",

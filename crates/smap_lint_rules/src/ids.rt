@@ -81,8 +81,8 @@ fn id_in_lines<'a>(text: &'a [u8], lines: u8) -> Option<&'a [u8]>
     }
 }
 
-/// The debug id that a script has in its last five lines, as `//# debugId=ID` or `/*# debugId=ID */`; the last
-/// one counts. Lines end at LF, and white space at the end of the script is left out.
+/// The debug id that a script has in its last five lines, as `//# debugId=ID` or `/*# debugId=ID */`; the
+/// last one counts. Lines end at LF, and white space at the end of the script is left out.
 pub fn debug_id<'a>(text: &'a [u8]) -> Option<&'a [u8]>
     ensures { option_map (λ id. id.now) result ≡ spec.debug_id text.now }
 {

@@ -1,6 +1,7 @@
 //! What is wrong in where mappings lead, and sources that are generated themselves, from which no trace leads
 //! further; in words.
 ghost use Rattle.std.specs.Prelude.{◌≡◌, [], IfOk, codes, filter, find, length, option_copied, option_map};
+ghost use Rattle.std.specs.Option.{option_or};
 ghost use Rattle.std.specs.Prelude.{string_bytes, unwrap_or};
 ghost use Rattle.smap_record.specs.Record.{record_of};
 ghost use Rattle.smap_record.specs.Views.{entry_of_view, origin_of_view};
@@ -8,12 +9,23 @@ ghost use Rattle.smap_lint_rules.specs.Findings as spec;
 
 use crate::contents::{content_widths, count_originals_past_end, first_lost_original};
 use crate::positions::counted;
-use crate::sources::{or_empty, own_part};
+use crate::sources::{Wrong, first_wrong, or_empty, own_part};
 use crate::wording::{example, one_or_more, place, some_of};
 use smap_link::{bare, link_in};
 use smap_record::{OriginalView, SourceMap, SourceView};
 use smap_system::printable;
 use std::alloc::{AllocError, Global};
+
+/// What is known of sources that are scripts, from files.
+#[derive(Clone, Copy)]
+pub struct Chains<'a> {
+    /// The sources without a content whose files name maps.
+    pub files: Wrong,
+    /// What the first of these names.
+    pub named: &'a [u8],
+    /// Of all maps that sources name, how many can be had.
+    pub there: usize,
+}
 
 fn lead_past(alloc: Global, count: usize, total: usize) -> Result<String, AllocError>
     ensures { IfOk result (λ t. string_bytes t ≡ spec.lead_past count total) }
@@ -137,39 +149,109 @@ fn is_data(url: &[u8]) -> bool
     url[..url.len().min(5)].eq_ignore_ascii_case(b"data:")
 }
 
-/// A source whose content names a map, and that map.
-fn open_example(alloc: Global, folder: &str, source: SourceView<'_>) -> Result<String, AllocError>
+/// A source, and the map that it names.
+fn open_example(
+    alloc: Global,
+    folder: &str,
+    named: &[u8],
+    source: SourceView<'_>,
+) -> Result<String, AllocError>
     ensures { IfOk result (λ t. string_bytes t
-        ≡ spec.open_example folder.now (entry_of_view source.entry)) }
+        ≡ spec.open_example folder.now named.now (entry_of_view source.entry)) }
 {
-    let named = named_words(alloc, named_map(source))?;
+    let named = named_words(alloc, named)?;
     let url = own_part(folder, or_empty(source.url));
     format!(in alloc; "{url} ({named})")
 }
 
-fn open_words(alloc: Global, count: usize, total: usize, first: &str) -> Result<String, AllocError>
-    ensures { IfOk result (λ t. string_bytes t ≡ spec.open_words count total first.now) }
+/// How many of the maps that so many sources name can be followed.
+fn followed(alloc: Global, count: usize, there: usize) -> Result<String, AllocError>
+    ensures { IfOk result (λ t. string_bytes t ≡ spec.followed count there) }
+{
+    if there == 0 {
+        let maps = one_or_more(count, "its map isn't", "their maps aren't");
+        return format!(in alloc; "{maps} there");
+    }
+    if there == count {
+        let them = one_or_more(count, "it", "them");
+        return format!(in alloc; "smap-maps compose follows {them}");
+    }
+    format!(in alloc; "smap-maps compose follows {there} of them")
+}
+
+/// That so many sources name maps, such as the first.
+fn open_words(
+    alloc: Global,
+    count: usize,
+    total: usize,
+    there: usize,
+    first: &str,
+) -> Result<String, AllocError>
+    ensures { IfOk result (λ t. string_bytes t ≡ spec.open_words count total there first.now) }
 {
     let sources = some_of(alloc, count, total, "source")?;
     let own = one_or_more(count, "names a map of its own", "name maps of their own");
     let example = example(alloc, count, first)?;
-    format!(in alloc;
-        "{sources} {own}{example}; the trace ends in generated text: have the bundler read \
-         that map, e.g. by source-map-loader or rollup-plugin-sourcemaps"
-    )
+    let followed = followed(alloc, count, there)?;
+    format!(in alloc; "{sources} {own}{example}; positions lead to generated text: {followed}")
 }
 
-/// Whether the contents of sources name maps, which nothing follows.
-pub(crate) fn open_chains(
-    alloc: Global,
-    map: &SourceMap,
-    folder: &str,
-) -> Result<Option<String>, AllocError>
-    ensures { IfOk result (λ t. option_map string_bytes t ≡ spec.open_chains map.now folder.now) }
+/// The first source whose content names a map.
+fn open_content(alloc: Global, map: &SourceMap, folder: &str) -> Result<Option<String>, AllocError>
+    ensures { IfOk result (λ t. option_map string_bytes t ≡ spec.open_content map.now folder.now) }
 {
     let Some(first) = first_open(map) else {
         return Ok(None);
     };
-    let first = open_example(alloc, folder, first)?;
-    Ok(Some(open_words(alloc, count_open(map), map.source_count(), first.as_str())?))
+    Ok(Some(open_example(alloc, folder, named_map(first), first)?))
+}
+
+/// The first source whose file names a map.
+fn open_file(
+    alloc: Global,
+    map: &SourceMap,
+    folder: &str,
+    chains: Chains<'_>,
+) -> Result<Option<String>, AllocError>
+    ensures { IfOk result (λ t. option_map string_bytes t
+        ≡ spec.open_file map.now folder.now chains.entry) }
+{
+    let Some(first) = first_wrong(map, chains.files) else {
+        return Ok(None);
+    };
+    Ok(Some(open_example(alloc, folder, chains.named, first)?))
+}
+
+/// The first source that names a map: in its content, or else in its file.
+fn first_example(
+    alloc: Global,
+    map: &SourceMap,
+    folder: &str,
+    chains: Chains<'_>,
+) -> Result<Option<String>, AllocError>
+    ensures { IfOk result (λ t. option_map string_bytes t
+        ≡ option_or (spec.open_content map.now folder.now) (spec.open_file map.now folder.now chains.entry)) }
+{
+    match open_content(alloc, map, folder)? {
+        Some(first) => Ok(Some(first)),
+        None => open_file(alloc, map, folder, chains),
+    }
+}
+
+/// Whether sources are scripts that name maps, which nothing follows.
+pub(crate) fn open_chains(
+    alloc: Global,
+    map: &SourceMap,
+    folder: &str,
+    chains: Chains<'_>,
+) -> Result<Option<String>, AllocError>
+    ensures { IfOk result (λ t. option_map string_bytes t
+        ≡ spec.open_chains map.now folder.now chains.entry) }
+{
+    let Some(first) = first_example(alloc, map, folder, chains)? else {
+        return Ok(None);
+    };
+    let count = count_open(map).saturating_add(chains.files.count);
+    let total = map.source_count();
+    Ok(Some(open_words(alloc, count, total, chains.there, first.as_str())?))
 }

@@ -6,7 +6,7 @@ use crate::checks::Check;
 use crate::generated::{few_mapped, generated_past_end, widths_of};
 use crate::lists::{other_file, repeated_sources, unused_names};
 use crate::members::Members;
-use crate::originals::{open_chains, originals_past_end};
+use crate::originals::{Chains, open_chains, originals_past_end};
 use crate::remarks::{Remark, add};
 use crate::said::{absolute_root, different_ids, machine_paths};
 use crate::sources::{Wrong, missing_sources, stale_contents};
@@ -39,6 +39,8 @@ pub struct Pair<'a> {
     pub missing: Wrong,
     /// The sources whose contents aren't those of their files.
     pub stale: Wrong,
+    /// What is known of the sources that are scripts.
+    pub chains: Chains<'a>,
 }
 
 /// Adds what is found in what the map says beside its mappings.
@@ -79,7 +81,7 @@ fn add_of_sources(alloc: Global, pair: &Pair<'_>, found: &mut Vec<Remark>) -> Re
     add(found, Check::MissingSource, missing)?;
     let stale = stale_contents(alloc, pair.map, pair.folder, pair.stale)?;
     add(found, Check::StaleContent, stale)?;
-    let open = open_chains(alloc, pair.map, pair.folder)?;
+    let open = open_chains(alloc, pair.map, pair.folder, pair.chains)?;
     add(found, Check::OpenChain, open)
 }
 

@@ -32,8 +32,8 @@ pub(crate) fn count_past_end(map: &SourceMap, widths: &[usize]) -> usize
     count
 }
 
-/// The first of these mappings.
-pub(crate) fn first_past_end(map: &SourceMap, widths: &[usize]) -> Option<Token>
+/// The first mapping that begins past the end of a script, or of one of its lines, which are so wide.
+pub fn first_past_end(map: &SourceMap, widths: &[usize]) -> Option<Token>
     ensures { result ≡ find (spec.is_past_end widths.now) map.now.listing.tokens }
 {
     for i in 0..map.token_count() {

@@ -58,7 +58,7 @@ pub(crate) fn own_part<'u>(folder: &str, url: &'u str) -> &'u str
 }
 
 /// The first of these sources of the map.
-fn first_wrong(map: &SourceMap, wrong: Wrong) -> Option<SourceView<'_>>
+pub(crate) fn first_wrong(map: &SourceMap, wrong: Wrong) -> Option<SourceView<'_>>
     ensures { option_map entry_of_view result ≡ spec.first_wrong map.now wrong }
 {
     let Some(first) = wrong.first else {

@@ -1,9 +1,10 @@
 //! A map that is looked at, and the script that has it.
 use crate::book::Book;
 use crate::folder::Folder;
+use crate::open::Open;
 use smap_fault_places::{point_of, range_of};
 use smap_link::script_url;
-use smap_lint_rules::{Check, Members, Pair, Remark, Script, lint_pair, members_of};
+use smap_lint_rules::{Chains, Check, Members, Pair, Remark, Script, Wrong, lint_pair, members_of};
 use smap_map_files::MapText;
 use smap_record::{Base, BaseFault, Fault, Limits, ReadError, SourceMap, map_tree};
 use smap_report::Point;
@@ -124,18 +125,9 @@ impl Case<'_, '_> {
         map: &SourceMap,
         members: &Members,
     ) -> Result<Vec<Remark>, AllocError> {
-        let (missing, stale) = self.look_for_sources(disk, map)?;
-        let pair = Pair {
-            map,
-            members,
-            script: self.script,
-            is_inline: self.is_inline,
-            folder: self.folder.url.as_str(),
-            min_mapped: self.book.min_mapped,
-            missing,
-            stale,
-        };
-        lint_pair(self.book.alloc, &pair)
+        let files = self.look_for_sources(disk, map)?;
+        let open = self.look_for_scripts(disk, map)?;
+        findings_with(self, map, members, files, &open)
     }
 
     /// Lints the map that these bytes are, and how it fits its script.
@@ -148,4 +140,32 @@ impl Case<'_, '_> {
         let found = self.findings(disk, &map, &members)?;
         self.book.add_all(self.file, found)
     }
+}
+
+/// What is found in a map, and in how it fits its script, where this is known of the sources: those that have
+/// no file, those that differ from theirs, and those that are scripts. A pair has one lifetime, so all do.
+fn findings_with<'x>(
+    case: &'x Case<'x, 'x>,
+    map: &'x SourceMap,
+    members: &'x Members,
+    files: (Wrong, Wrong),
+    open: &'x Open,
+) -> Result<Vec<Remark>, AllocError> {
+    let (missing, stale) = files;
+    let pair = Pair {
+        map,
+        members,
+        script: case.script,
+        is_inline: case.is_inline,
+        folder: case.folder.url.as_str(),
+        min_mapped: case.book.min_mapped,
+        missing,
+        stale,
+        chains: Chains {
+            files: open.files,
+            named: &open.named,
+            there: open.there,
+        },
+    };
+    lint_pair(case.book.alloc, &pair)
 }

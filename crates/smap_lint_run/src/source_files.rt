@@ -143,7 +143,7 @@ fn stale_among<D: Disk>(
 
 impl Case<'_, '_> {
     /// The URL of the map's script; empty for a map without one.
-    fn own_script(&self) -> Result<Vec<u8>, AllocError> {
+    pub(crate) fn own_script(&self) -> Result<Vec<u8>, AllocError> {
         let alloc = self.book.alloc;
         match self.script {
             Some(script) => {

@@ -1,3 +1,4 @@
+pub mod Composing
 pub mod Deciding
 pub mod Forms
 pub mod JsonLines

@@ -1,6 +1,6 @@
-//! What a command line asks of scripts, in the words of `smap_edits`.
+//! What a command line asks of scripts, in the words of `smap_script_comments`.
 use smap_command_line::maps::MapsWords;
-use smap_edits::{ScriptTask, ScriptsAsked};
+use smap_script_comments::{ScriptTask, ScriptsAsked};
 use std::alloc::{AllocError, Global};
 
 /// What `comment` does with each script.

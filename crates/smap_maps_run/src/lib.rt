@@ -2,7 +2,7 @@
 //! is read by `smap_command_line`, what a rewrite drops and changes is told by `smap_differences`, and what
 //! is repaired by `smap_repair`; maps are read by `smap_record` and written by `smap_canon`, as by `smap`
 //! itself. One map is looked at after the other, so that one is in memory at a time. `lint` is a run of
-//! `smap_lint_run`, and what changes scripts one of `smap_edits`.
+//! `smap_lint_run`, and what changes scripts one of `smap_script_comments`.
 //!
 //! What becomes of a source map that `smap-maps` looks at, and what is said of that: a map's bytes are judged
 //! ([`judged`]), and an [`Outcome`] is a line of JSON ([`json_line`]) or a remark ([`remark`]) under the name
@@ -10,6 +10,7 @@
 #![tactic(auto)]
 
 mod changing;
+mod composing;
 mod deciding;
 mod differing;
 mod extracting;

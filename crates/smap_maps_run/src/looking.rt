@@ -110,7 +110,7 @@ fn changes_of(
 }
 
 /// What is dropped and, if that is asked for, what changes.
-fn differences(
+pub(crate) fn differences(
     alloc: Global,
     bytes: &[u8],
     text: &[u8],

@@ -1,13 +1,14 @@
 //! The commands that don't look at maps one after another.
 use crate::changing::{comment_task, scripts_asked};
+use crate::composing::compose;
 use crate::differing::diff;
 use crate::extracting::extract;
 use crate::linting::lint_asked;
 use crate::sourcing::source;
 use smap_command_line::MapsCommand;
 use smap_command_line::maps::MapsWords;
-use smap_edits::{ScriptTask, edit_scripts};
 use smap_lint_run::lint;
+use smap_script_comments::{ScriptTask, edit_scripts};
 use smap_system::{Disk, Host, Stop, Watched};
 use std::io::Write;
 
@@ -41,6 +42,7 @@ pub(crate) fn do_other<E: Eprint + AllocGlobal, D: Disk, W: Write>(
     writer: &mut Watched<W>,
 ) -> Result<u8, Stop> {
     match asked.command {
+        MapsCommand::Compose => compose(host, asked, writer),
         MapsCommand::Diff => diff(host, asked, writer),
         MapsCommand::Extract => extract(host, asked, writer),
         MapsCommand::Comment => change_scripts(host, asked, comment_task(asked), writer),

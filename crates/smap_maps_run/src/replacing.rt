@@ -4,7 +4,7 @@ ghost use Rattle.smap_maps_run.specs.Looking.{IsDue};
 
 use crate::Failure;
 use crate::looking::Case;
-use smap_edits::{ReplaceFault, replace_file};
+use smap_script_comments::{ReplaceFault, replace_file};
 use smap_system::{Disk, Stamp};
 use std::alloc::Global;
 
@@ -25,8 +25,8 @@ pub(crate) fn put<D: Disk>(
     }
 }
 
-/// Gives the file of a map, which was this when its bytes were read, the bytes that are due. Where this fails,
-/// the file is as it was, or as another program has written it.
+/// Gives the file of a map, which was this when its bytes were read, the bytes that are due. Where this
+/// fails, the file is as it was, or as another program has written it.
 pub(crate) fn replace<D: Disk>(case: &Case<'_, D>, stamp: Stamp, text: &[u8]) -> Result<(), Failure>
     requires { IsDue (D.held case.now.disk.now) (string_bytes case.now.target.now.file)
         case.now.target.now.url.items case.now.url_bytes case.now.work text.now }

@@ -5,7 +5,7 @@ ghost use Rattle.smap_maps_run.specs.Targets.{paths_below};
 
 use smap_link::script_url;
 use smap_lint_run::{refuse_empty, refuse_path};
-use smap_map_files::{folder_url, without_slashes};
+use smap_map_files::{Home, folder_url, without_slashes};
 use smap_system::{Disk, Host, Kind, Stop, joined, parted, walk};
 use std::alloc::{AllocError, Global};
 
@@ -16,6 +16,31 @@ pub(crate) struct Target {
     pub(crate) file: String,
     /// Its URL, against which its sources are resolved.
     pub(crate) url: Vec<u8>,
+    /// How many bytes of these two are the path and the URL of its folder.
+    folder: (usize, usize),
+}
+
+/// The text that so many bytes of a text are.
+fn front(text: &[u8], count: usize) -> &str {
+    let front = text.get(..count).unwrap_or(&[]);
+    std::str::from_utf8(front).unwrap_or("")
+}
+
+impl Target {
+    /// The folder in which it was found, or that it is in, if it was given by itself.
+    pub(crate) fn home(&self) -> Home<'_> {
+        let (path, url) = self.folder;
+        Home {
+            path: front(self.file.as_str().as_bytes(), path),
+            url: front(&self.url, url).as_bytes(),
+        }
+    }
+
+    /// The URL of the script of which it is the map by its name.
+    pub(crate) fn script(&self) -> &str {
+        let url = std::str::from_utf8(&self.url).unwrap_or("");
+        url.strip_suffix(".map").unwrap_or(url)
+    }
 }
 
 fn add(
@@ -29,7 +54,9 @@ fn add(
         ≡ files_of targets.old.items ++ string_bytes file ∷ []) }
 {
     let url = script_url(alloc, folder_url, name.as_bytes())?;
-    targets.push(Target { file, url })?;
+    let path = file.as_str().len().saturating_sub(name.len());
+    let folder = (path, folder_url.len());
+    targets.push(Target { file, url, folder })?;
     Ok(())
 }
 

@@ -39,7 +39,8 @@ module _ {T : Type 0} (url script : List ℕ) (w t : T) where
   outer_set [] h = inl h
   outer_set (e ∷ es) h = outer_step e.0 e.1 (lookup (has_key url) es)
       (lookup (has_key url) (set_value (has_key script) es w)) (outer_set es) (has_key script e.0) refl
-      (has_key url e.0) refl (sym (split_lookup (has_key script e.0) e es (set_value (has_key script) es w)) ∙ h)
+      (has_key url e.0) refl
+      (sym (split_lookup (has_key script e.0) e es (set_value (has_key script) es w)) ∙ h)
 
 first_put : {T : Type 0} (url : List ℕ) (key : Vec ℕ) (w t : T) (b : Bool) → bytes_eq url key.items ≡ b
     → ◌≡◌ {A = Option T} (cond b (Some w) None) (Some t)
@@ -64,7 +65,8 @@ outer_put url key w t (e ∷ es) h = outer_step url key.items w t e.0 e.1 (looku
 pub viewed_lookup : {T U : Type 0} (f : T → U) (key : List ℕ) (es : List (Vec ℕ × T))
     → lookup (bytes_eq key) (map (λ e. (e.0.items, f e.1)) es) ≡ option_map f (lookup (has_key key) es)
 viewed_lookup f key [] = refl
-viewed_lookup {T} {U} f key (e ∷ es) = go (has_key key e.0) e.1 (lookup (bytes_eq key) (map (λ e. (e.0.items, f e.1)) es))
+viewed_lookup {T} {U} f key (e ∷ es) = go (has_key key e.0) e.1
+    (lookup (bytes_eq key) (map (λ e. (e.0.items, f e.1)) es))
     (lookup (has_key key) es) (viewed_lookup f key es)
   where
     go : (b : Bool) (v : T) (l : Option U) (m : Option T) → l ≡ option_map f m

@@ -23,7 +23,9 @@ pub put_line : (es fs : List (Vec ℕ × TranslatedLine)) (line : List ℕ) (key
     → KeepsMore (lines_in es) (lines_in fs) line (line_of w)
 put_line es fs line key w named new other u kept =
     let there = some_of line_of (lookup (has_key other) fs) u (sym (viewed_lookup line_of other fs) ∙ kept) in
-    elim (outer_put other key w there.0 es (subst (λ (xs : List (Vec ℕ × TranslatedLine)). lookup (has_key other) xs ≡ Some there.0) new there.1)) [
+    elim (outer_put other key w there.0 es
+    (subst (λ (xs : List (Vec ℕ × TranslatedLine)). lookup (has_key other) xs ≡ Some there.0) new
+    there.1)) [
       | inl was ↦ inl (viewed_lookup line_of other es ∙ ap (option_map line_of) was ∙ ap Some there.2)
       | inr same ↦ inr (same.0 ∙ named, sym there.2 ∙ ap line_of (sym same.1))
     ]

@@ -1,5 +1,6 @@
 -- Texts in cells of a table in Markdown.
-use Rattle.std.specs.Prelude.{ℕ, ◌==◌, ◌&&◌, ◌||◌, ◌++◌, Bool, cond, nat_le, List, chars, codes, decimal, encode_utf8}
+use Rattle.std.specs.Prelude.{ℕ, ◌==◌, ◌&&◌, ◌||◌, ◌++◌, Bool, cond, nat_le, List, chars, codes}
+use Rattle.std.specs.Prelude.{decimal, encode_utf8}
 use Rattle.std.specs.List.{flat_map}
 use Rattle.smap_system.specs.Printing.{printable}
 

@@ -340,7 +340,8 @@ pub fn growth_markdown(alloc: Global, builds: Builds<'_>) -> Result<String, Allo
     let growth = growth_text(alloc, old, bytes)?;
     let growth = growth.as_str();
     let mut text = format!(in alloc;
-        "| old | bytes | growth | | name |\n|---:|---:|---:|---|---|\n| {old} | {bytes} | {growth} | all | |\n"
+        "| old | bytes | growth | | name |\n|---:|---:|---:|---|---|\n\
+         | {old} | {bytes} | {growth} | all | |\n"
     )?;
     push_markdown_rows(alloc, &mut text, &rows, "source")?;
     push_markdown_rows(alloc, &mut text, &folders, "folder")?;

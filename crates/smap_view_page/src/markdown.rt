@@ -41,8 +41,8 @@ fn code(alloc: Global, text: &str) -> Result<String, AllocError>
     Ok(made)
 }
 
-/// Appends a cell of a row with a text in it, as code. All but letters, digits and four signs is written by its
-/// number, so no text ends its cell, or begins anything else.
+/// Appends a cell of a row with a text in it, as code. All but letters, digits and four signs is written by
+/// its number, so no text ends its cell, or begins anything else.
 ///
 /// # Errors
 ///

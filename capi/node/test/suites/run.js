@@ -3,7 +3,7 @@
 //
 //     node run.js NAME FOLDER
 //
-// NAME is `source-map`, `remapping` or `source-map-support`, and FOLDER has its sources, as
+// NAME is `source-map`, `gen-mapping`, `remapping` or `source-map-support`, and FOLDER has its sources, as
 // tools/peer-suites puts them there. What differs on purpose is listed in differences.json with its reason:
 // such a test has to fail with the error that stands there, and any other one to pass. Only tests that ask
 // the layer are counted. Before, all of them are run over the package itself, and have to pass. The last line
@@ -17,11 +17,15 @@ const assert = require('node:assert');
 const { spawnSync } = require('node:child_process');
 
 const SUITES = {
-  // The generator and SourceNode stay those of source-map.
   'source-map': {
-    layers: { '../../source-map.js': /(^source-map|\/source-map-consumer(\.js)?)$/ },
+    layers: { '../../source-map.js': /(^|\/)source-(map|map-consumer|map-generator|node)(\.js)?$/ },
     load: loadExports,
     needs: [],
+  },
+  'gen-mapping': {
+    layers: { '../../gen-mapping.js': /^\.\.(\/src\/gen-mapping)?$/ },
+    load: loadGenMapping,
+    needs: ['typescript', '@jridgewell/gen-mapping', '@jridgewell/trace-mapping'],
   },
   remapping: {
     layers: {
@@ -66,6 +70,12 @@ function loadTypeScript(folder) {
   return tests;
 }
 
+// What they ask for isn't built there; that which is installed is.
+function loadGenMapping(folder, isOurs) {
+  if (!isOurs) substitute(name => name === '..' && require('@jridgewell/gen-mapping'));
+  return loadTypeScript(folder);
+}
+
 // Its tests write programs into their folder and run them, so the layer stands there as a file, in a copy.
 function loadCopy(folder, isOurs) {
   const copy = fs.mkdtempSync(path.join(os.tmpdir(), 'smap-suite-'));
@@ -108,7 +118,7 @@ let asked = 0; // how often anything of a layer was called
 const counting = {
   apply: (...call) => (asked++, Reflect.apply(...call)),
   construct: (call, args) => (asked++, Reflect.construct(call, args)),
-  get: (call, key) => (key === 'fromSourceMap' && asked++, call[key]),
+  get: (call, key) => (/^from/.test(String(key)) && asked++, call[key]),
 };
 
 function counted(exports) {

@@ -2,7 +2,7 @@
 // What the programs in this folder share, which stand for packages that compile what `require` reads. Their
 // compiler puts three lines above a text, and moves each line seven columns to the right.
 const path = require('node:path');
-const { encode } = require('../../vlq.js');
+const { encode } = require('../vlq.js');
 
 const LINES = 3, COLUMNS = 7;
 

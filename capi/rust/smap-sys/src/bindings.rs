@@ -252,6 +252,9 @@ extern "C" {
     pub fn smap_respell(
         text: *const c_char, len: usize, out: *mut smap_bytes, fault: *mut smap_fault,
     ) -> u32;
+    pub fn smap_spell(
+        numbers: *const u32, mappings: usize, out: *mut smap_bytes, wrong: *mut usize,
+    ) -> u32;
     pub fn smap_frame(line: *const c_void, len: usize, out: *mut smap_frame_parts) -> u32;
     pub fn smap_translate_line(
         map: *mut smap_map, url: *const c_char, url_len: usize, line: *const c_void, line_len: usize,

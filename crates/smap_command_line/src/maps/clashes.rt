@@ -162,7 +162,7 @@ fn lacking(options: &Options<'_>, command: MapsCommand) -> Option<Clash>
     ensures { result ≡ spec.lacking (rows_in options.now) command }
 {
     match command {
-        MapsCommand::Tidy | MapsCommand::Flatten => {
+        MapsCommand::Tidy | MapsCommand::Flatten | MapsCommand::Compose => {
             let is_fine = !options.has("drop") || options.has("write");
             unless(is_fine, Clash::DropAlone)
         }

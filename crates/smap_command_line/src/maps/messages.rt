@@ -13,6 +13,7 @@ fn command_text(command: MapsCommand) -> &'static str {
         MapsCommand::Flatten => "flatten",
         MapsCommand::Lint => "lint",
         MapsCommand::Repair => "repair",
+        MapsCommand::Compose => "compose",
         MapsCommand::Extract => "extract",
         MapsCommand::Comment => "comment",
         MapsCommand::Inline => "inline",

@@ -4,7 +4,7 @@ use crate::rows::{
 };
 
 /// The options, in the order in which the help lists them and they are looked at.
-pub const OPTIONS: [OptionRow; 19] = [
+pub const OPTIONS: [OptionRow; 21] = [
     OptionOf {
         name: "base",
         value: Value::Text,
@@ -48,6 +48,7 @@ pub const OPTIONS: [OptionRow; 19] = [
             tidy: true,
             flatten: true,
             repair: true,
+            compose: true,
             comment: true,
             inline: true,
             outline: true,
@@ -71,6 +72,7 @@ pub const OPTIONS: [OptionRow; 19] = [
         commands: Commands {
             tidy: true,
             flatten: true,
+            compose: true,
             contents: true,
             ..NO_COMMANDS
         },
@@ -142,6 +144,7 @@ pub const OPTIONS: [OptionRow; 19] = [
         commands: Commands {
             tidy: true,
             flatten: true,
+            compose: true,
             ..NO_COMMANDS
         },
         help: "Show which members would change",
@@ -155,12 +158,14 @@ pub const OPTIONS: [OptionRow; 19] = [
             check: true,
             tidy: true,
             flatten: true,
+            compose: true,
             ..NO_COMMANDS
         },
         help: "Write a line of JSON for each map",
         details: "It has the members path, status, fault, place, line, column, range and, but for \
-                  check, drops, and nothing else but errors of the command line is written. The line, \
-                  the column and the range of bytes are those of the fault in the text of the map.",
+                  check, drops. Nothing else is written but errors of the command line and what compose \
+                  says of sources. The line, the column and the range of bytes are those of the fault \
+                  in the text of the map.",
         ..FLAG
     },
     OptionOf {
@@ -173,7 +178,7 @@ pub const OPTIONS: [OptionRow; 19] = [
             diff: true,
             ..NO_COMMANDS
         },
-        help: "Write findings as text, gnu, github, sarif, junit or json; differences as text, json or markdown",
+        help: "Write findings as text, gnu, github, sarif, junit, json; differences as text, json, markdown",
         ..FLAG
     },
     OptionOf {
@@ -232,6 +237,24 @@ pub const OPTIONS: [OptionRow; 19] = [
             ..NO_COMMANDS
         },
         help: "Write the files of sources into DIR",
+        ..FLAG
+    },
+    OptionOf {
+        name: "thin",
+        commands: Commands {
+            compose: true,
+            ..NO_COMMANDS
+        },
+        help: "Leave out mappings that change no position's original",
+        ..FLAG
+    },
+    OptionOf {
+        name: "used",
+        commands: Commands {
+            compose: true,
+            ..NO_COMMANDS
+        },
+        help: "Leave out sources that no mapping has",
         ..FLAG
     },
     OptionOf {

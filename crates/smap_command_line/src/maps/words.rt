@@ -134,6 +134,7 @@ fn command_in(name: &str) -> Option<MapsCommand>
         "flatten" => Some(MapsCommand::Flatten),
         "lint" => Some(MapsCommand::Lint),
         "repair" => Some(MapsCommand::Repair),
+        "compose" => Some(MapsCommand::Compose),
         "extract" => Some(MapsCommand::Extract),
         "comment" => Some(MapsCommand::Comment),
         "inline" => Some(MapsCommand::Inline),

@@ -20,8 +20,7 @@ many bytes of the script come from which source. The page holds all that it show
   -o FILE         Write the page to FILE, which changes only when all is written
   --compare OLD   Show what grew and what shrank since OLD, the map, script or folder of another build
   --sizes FORMAT  Write no page, but the bytes and mappings of each source: table, tsv or json
-  --budget FILE   Write no page, but fail where sources have more bytes than FILE allows, or than OLD and +5%
-                  or +10KB
+  --budget FILE   Write no page; fail where sources have more bytes than FILE, or OLD and +5% or +10KB, allows
   -V, --version   Print the version
   -h, --help      Print help
 

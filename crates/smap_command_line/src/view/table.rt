@@ -51,7 +51,7 @@ pub const OPTIONS: [OptionRow; 6] = [
         value: Value::File,
         value_name: "FILE",
         expected: "the name of a file, or a growth",
-        help: "Write no page, but fail where sources have more bytes than FILE allows, or than OLD and +5% or +10KB",
+        help: "Write no page; fail where sources have more bytes than FILE, or OLD and +5% or +10KB, allows",
         details: "FILE holds a JSON object. Each of its names is part of URLs of sources, and its number \
                   is the most bytes that all of these may have together, in all scripts that are \
                   looked at. The empty name stands for the whole scripts. With --compare a text that begins \

@@ -10,11 +10,13 @@ returns g c =
       | then-is_named+in_ok-put w ↦ rw w.kept-is (appended_kept self.mode scripts self.hide c.args.line.now
           c.args.kept.now c.translate_anew.new.kept w.put.new.self c.new-text.result.items
           c.translate_anew.new.out.items c.deref.result.now w.deref-then-is_named.result.now
-          c.args.out.now.items c.extend_from_slice.new.self.items c.in_ok-outcome.outcome c.new-text.ensures.items
+          c.args.out.now.items c.extend_from_slice.new.self.items c.in_ok-outcome.outcome
+          c.new-text.ensures.items
           c.deref.ensures.value w.deref-then-is_named.ensures.value c.in_ok-extend_from_slice.ensures.items
           c.in_ok-outcome.ensures w.in_ok-put.ensures)
       | else-is_named w ↦ rw w.kept-is (appended self.mode scripts self.hide c.args.line.now c.args.kept.now
           c.translate_anew.new.kept c.new-text.result.items c.translate_anew.new.out.items c.deref.result.now
-          c.args.out.now.items c.extend_from_slice.new.self.items c.in_ok-outcome.outcome c.new-text.ensures.items
+          c.args.out.now.items c.extend_from_slice.new.self.items c.in_ok-outcome.outcome
+          c.new-text.ensures.items
           c.deref.ensures.value c.in_ok-extend_from_slice.ensures.items c.in_ok-outcome.ensures)
     ]

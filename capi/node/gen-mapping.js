@@ -1,0 +1,3 @@
+'use strict';
+const { layer } = require('./layers.js');
+module.exports = layer(() => require('./gen-map.js'), '@jridgewell/gen-mapping');

@@ -1,0 +1,119 @@
+//! The maps that the sources of a map lead to, at every depth.
+use crate::search::Search;
+use smap_map_files::Home;
+use smap_record::SourceMap;
+use smap_system::Disk;
+use std::alloc::{AllocError, Global};
+
+/// How many levels of maps are followed.
+pub(crate) const DEEPEST: usize = 16;
+
+/// The maps that the sources of a map lead to. Those of one source are the same wherever it is listed.
+#[derive(Drop)]
+pub struct Chain {
+    /// The maps, in the order in which they were found.
+    pub maps: Vec<SourceMap>,
+    /// For each distinct source of the first map the index of its map; none if it leads to none.
+    pub numbers: Vec<Option<usize>>,
+    /// The same of each of `maps`.
+    pub leads: Vec<Vec<Option<usize>>>,
+    /// How many levels there are; none where there are more than 16, or a map leads back to itself.
+    pub depth: Option<usize>,
+    /// The first source that is followed, with what it names.
+    pub example: Option<String>,
+    /// What the first source says that names a map which isn't there, and how many do.
+    pub missed: Option<String>,
+    pub missing: usize,
+    /// Why other maps can't be followed, a sentence each.
+    pub refusals: Vec<String>,
+}
+
+impl Chain {
+    pub(crate) fn new(alloc: Global) -> Chain {
+        Chain {
+            maps: Vec::new(alloc),
+            numbers: Vec::new(alloc),
+            leads: Vec::new(alloc),
+            depth: None,
+            example: None,
+            missed: None,
+            missing: 0,
+            refusals: Vec::new(alloc),
+        }
+    }
+
+    /// Says why a map that is there can't be followed.
+    pub(crate) fn refuse(&mut self, refusal: String) -> Result<Option<usize>, AllocError> {
+        match self.refusals.push(refusal) {
+            Ok(()) => Ok(None),
+            Err(_) => Err(AllocError),
+        }
+    }
+}
+
+/// Marks the maps that have these indices. Answers whether there is one.
+fn mark(numbers: &[Option<usize>], marks: &mut Vec<bool>) -> bool {
+    let mut is_one = false;
+    for number in numbers {
+        if let Some(number) = *number {
+            if let Some(mark) = marks.get_mut(number) {
+                *mark = true;
+                is_one = true;
+            }
+        }
+    }
+    is_one
+}
+
+/// Marks the maps that the sources of the marked ones lead to. Answers whether there is one.
+fn mark_next(leads: &[Vec<Option<usize>>], marks: &[bool], next: &mut Vec<bool>) -> bool {
+    let mut is_one = false;
+    for (numbers, marked) in leads.iter().zip(marks) {
+        if *marked && mark(numbers, next) {
+            is_one = true;
+        }
+    }
+    is_one
+}
+
+/// How many levels of maps there are; none if they are too many, or without an end.
+fn depth_of(alloc: Global, chain: &Chain) -> Result<Option<usize>, AllocError> {
+    let count = chain.maps.len();
+    if chain.leads.len() < count {
+        return Ok(None);
+    }
+    let mut marks = vec![in alloc; false; count]?;
+    let mut is_one = mark(&chain.numbers, &mut marks);
+    for depth in 0..DEEPEST + 1 {
+        if !is_one {
+            return Ok(Some(depth));
+        }
+        let mut next = vec![in alloc; false; count]?;
+        is_one = mark_next(&chain.leads, &marks, &mut next);
+        marks = next;
+    }
+    Ok(None)
+}
+
+/// The maps that the sources of a map lead to, each looked at as a script, at every depth. The map is of the
+/// script with this URL, and nothing outside of the folder is opened. A map that is refused, or of another
+/// text, isn't followed: `refusals` say so.
+///
+/// # Errors
+///
+/// Out of memory alone.
+pub fn chain_of<D: Disk>(
+    alloc: Global,
+    disk: &D,
+    home: Home<'_>,
+    script: &[u8],
+    map: &SourceMap,
+    url_bytes: usize,
+) -> Result<Chain, AllocError> {
+    let mut search = Search::new(alloc, disk, home, url_bytes);
+    search.start(script, map)?;
+    search.go_on()?;
+    let Search { mut chain, .. } = search;
+    chain.depth = depth_of(alloc, &chain)?;
+    Ok(chain)
+}

@@ -1,0 +1,139 @@
+//! Which map a source has: each source is looked at as a script, which names its map in its last comment.
+ghost use Rattle.std.specs.Prelude.{IfOk};
+ghost use Rattle.smap_lint_run.specs.SourceMaps.{IsLead, IsSourceTarget};
+
+use crate::folder::has_no_size;
+use smap_link::{bare, is_data, link_in, script_name};
+use smap_map_choice::NamedFault;
+use smap_map_files::{Home, Target, is_within, target_of};
+use smap_record::SourceView;
+use smap_system::{Disk, FileFault, Kind, LIMIT, read_file};
+use std::alloc::{AllocError, Global};
+
+/// The text of a source.
+#[derive(Drop)]
+pub(crate) enum SourceText<'a> {
+    Content(&'a str),
+    /// That of its file, where the map has none.
+    File(Vec<u8>),
+}
+
+impl SourceText<'_> {
+    pub(crate) fn bytes(&self) -> &[u8] {
+        match self {
+            SourceText::Content(text) => text.as_bytes(),
+            SourceText::File(bytes) => bytes.as_slice(),
+        }
+    }
+}
+
+/// What a source names for its map.
+#[derive(Drop)]
+pub(crate) struct Lead {
+    /// The URL in its last comment.
+    pub(crate) named: Vec<u8>,
+    pub(crate) target: Target,
+}
+
+/// What the source with this URL names by another: in the folder as its scripts do, and outside of it a map
+/// in its text alone.
+fn source_target<D: Disk>(
+    alloc: Global,
+    disk: &D,
+    home: Home<'_>,
+    url: &str,
+    named: &[u8],
+) -> Result<Target, AllocError>
+    ensures { IfOk result (IsSourceTarget home.entry.url.now url.now named.now) }
+{
+    match script_name(alloc, home.url, bare(url.as_bytes()))? {
+        Some(name) => target_of(alloc, disk, home, &name, named),
+        None if is_data(named) => target_of(alloc, disk, home, b"", named),
+        None => Ok(Target::Wrong(NamedFault::Leaves)),
+    }
+}
+
+/// What the source with this URL names for its map in its text, if it names one.
+///
+/// # Errors
+///
+/// Out of memory alone.
+pub(crate) fn lead_of<D: Disk>(
+    alloc: Global,
+    disk: &D,
+    home: Home<'_>,
+    url: &str,
+    text: &[u8],
+) -> Result<Option<Lead>, AllocError>
+    ensures { IfOk result (IsLead home.entry.url.now url.now text.now) }
+{
+    let Some(named) = link_in(bare(url.as_bytes()), text) else {
+        return Ok(None);
+    };
+    let target = source_target(alloc, disk, home, url, named)?;
+    let named = Vec::from_slice(alloc, named)?;
+    Ok(Some(Lead { named, target }))
+}
+
+/// The path of the source with this URL, if it is a file of the folder.
+fn path_in<D: Disk>(
+    alloc: Global,
+    disk: &D,
+    home: Home<'_>,
+    url: &str,
+) -> Result<Option<String>, AllocError> {
+    let Some(name) = script_name(alloc, home.url, bare(url.as_bytes()))? else {
+        return Ok(None);
+    };
+    let Ok(name) = String::from_utf8(name) else {
+        return Ok(None);
+    };
+    let (folder, name) = (home.path, name.as_str());
+    let path = format!(in alloc; "{folder}{name}")?;
+    if disk.kind(path.as_str()) == Kind::File && is_within(alloc, disk, folder, path.as_str())? {
+        return Ok(Some(path));
+    }
+    Ok(None)
+}
+
+/// What the file of the source with this URL holds, if it is one of the folder and can be read.
+pub(crate) fn file_text<D: Disk>(
+    alloc: Global,
+    disk: &D,
+    home: Home<'_>,
+    url: &str,
+) -> Result<Option<Vec<u8>>, AllocError> {
+    let Some(path) = path_in(alloc, disk, home, url)? else {
+        return Ok(None);
+    };
+    if has_no_size(disk, path.as_str()) {
+        return Ok(None);
+    }
+    match read_file(alloc, disk, path.as_str(), LIMIT) {
+        Ok(bytes) => Ok(Some(bytes)),
+        Err(FileFault::Memory) => Err(AllocError),
+        Err(_) => Ok(None),
+    }
+}
+
+/// The text of a source of the map of the script with this URL: its content or, if it has none, what its file
+/// in the folder holds. That of a script that was written over its source isn't there any more.
+pub(crate) fn source_text<'a, D: Disk>(
+    alloc: Global,
+    disk: &D,
+    home: Home<'_>,
+    script: &[u8],
+    source: SourceView<'a>,
+) -> Result<Option<SourceText<'a>>, AllocError> {
+    if let Some(content) = source.content {
+        return Ok(Some(SourceText::Content(content)));
+    }
+    let url = source.url.unwrap_or("");
+    if url.as_bytes() == script {
+        return Ok(None);
+    }
+    match file_text(alloc, disk, home, url)? {
+        Some(bytes) => Ok(Some(SourceText::File(bytes))),
+        None => Ok(None),
+    }
+}

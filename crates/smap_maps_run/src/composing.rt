@@ -1,0 +1,315 @@
+//! `smap-maps compose`: each map composed with those that its sources lead to.
+ghost use Rattle.std.specs.Prelude.{◌≡◌, IfOk, IfSome, Ok, Some, cond, string_bytes, true};
+ghost use Rattle.smap_canon.specs.Canonical.{canonical_text_in};
+ghost use Rattle.smap_canon.specs.Layout.{form_asked};
+ghost use Rattle.smap_compose.specs.Composing.{Maps, composition};
+ghost use Rattle.smap_compose.specs.Thinning.{thinned};
+ghost use Rattle.smap_compose.specs.Using as using_of;
+ghost use Rattle.smap_record.specs.Record.{record_of, usual};
+ghost use Rattle.smap_record.specs.UrlBytes.{reading_within};
+ghost use Rattle.smap_maps_run.specs.Composing as spec;
+ghost use Rattle.smap_maps_run.specs.Composing.{IsComposedTo};
+ghost use Rattle.smap_maps_run.specs.Looking.{IsFileOf};
+
+use crate::deciding::{Deed, Work, decided};
+use crate::forms::Form;
+use crate::judging::map_of;
+use crate::looking::{Case, MapFile, differences, plain};
+use crate::replacing::put;
+use crate::reporting::report;
+use crate::targets::{Target, targets_of};
+use crate::{Failure, Outcome, Verdict, unread};
+use smap_canon::canonical_in;
+use smap_command_line::maps::{MapsWords, Rewrite};
+use smap_compose::{ComposeError, compose_deep, only_used, thin};
+use smap_lint_run::{Chain, chain_of, chain_remarks};
+use smap_map_files::MapText;
+use smap_record::{Base, Limits, SourceMap};
+use smap_system::{Disk, Host, Stop, Watched};
+use std::alloc::{AllocError, Global};
+use std::io::Write;
+
+/// What is asked of a run.
+#[derive(Clone, Copy)]
+struct Job {
+    rewrite: Rewrite,
+    /// Whether mappings are left out that change no position's original.
+    thin: bool,
+    /// Whether sources are left out that no mapping has.
+    used: bool,
+    /// How many bytes the URLs of a map's sources may take.
+    url_bytes: usize,
+}
+
+/// What became of a map.
+#[derive(Drop)]
+struct Composed {
+    outcome: Outcome,
+    /// What is said of its sources.
+    remarks: Vec<String>,
+    /// Whether all maps that are there were followed.
+    is_whole: bool,
+}
+
+/// A map without the mappings that change nothing, if that is asked for.
+fn thinned_if(alloc: Global, map: SourceMap, asked: bool) -> Result<SourceMap, AllocError>
+    ensures { IfOk result (λ m. record_of m ≡ cond asked (thinned (record_of map)) (record_of map)) }
+{
+    if asked { thin(alloc, &map) } else { Ok(map) }
+}
+
+/// A map without the sources that no mapping has, if that is asked for.
+fn used_if(alloc: Global, map: SourceMap, asked: bool) -> Result<SourceMap, AllocError>
+    ensures { IfOk result (λ m. record_of m ≡ cond asked (using_of.used (record_of map)) (record_of map)) }
+{
+    if asked {
+        only_used(alloc, &map)
+    } else {
+        Ok(map)
+    }
+}
+
+/// The canonical text of a map as it is asked for.
+fn finished_text(
+    alloc: Global,
+    base: &Base,
+    map: SourceMap,
+    job: Job,
+) -> Result<Vec<u8>, AllocError>
+    ensures { IfOk result (λ text. text.items ≡ canonical_text_in (form_asked true) base.now
+        (spec.finished job.thin job.used (record_of map))) }
+{
+    let map = thinned_if(alloc, map, job.thin)?;
+    let map = used_if(alloc, map, job.used)?;
+    match canonical_in(alloc, &map, base, true) {
+        Ok(text) => Ok(text),
+        Err(_) => Err(AllocError),
+    }
+}
+
+/// The composition of a map with those of a chain with so many levels below the first; none where it would
+/// list too many sources or use too many names.
+fn followed(
+    alloc: Global,
+    map: &SourceMap,
+    chain: &Chain,
+    below: usize,
+) -> Result<Option<SourceMap>, AllocError>
+    ensures { IfOk result (λ o. IfSome o (λ m.
+        (maps : Maps) × (record_of m ≡ composition (record_of map.now) maps))) }
+{
+    let (numbers, maps, leads) = (&chain.numbers, &chain.maps, &chain.leads);
+    match compose_deep(alloc, map, numbers, maps, leads, below, Limits::usual()) {
+        Ok(map) => Ok(Some(map)),
+        Err(ComposeError::TooMany) => Ok(None),
+        Err(ComposeError::Memory) => Err(AllocError),
+    }
+}
+
+/// The text of a map that is composed with those of a chain.
+fn composed_text(
+    alloc: Global,
+    base: &Base,
+    map: &SourceMap,
+    chain: &Chain,
+    below: usize,
+    job: Job,
+) -> Result<Option<Vec<u8>>, AllocError>
+    ensures { IfOk result (λ o. IfSome o (λ text. (maps : Maps)
+        × (text.items ≡ canonical_text_in (form_asked true) base.now
+        (spec.finished job.thin job.used (composition (record_of map.now) maps))))) }
+{
+    match followed(alloc, map, chain, below)? {
+        Some(map) => Ok(Some(finished_text(alloc, base, map, job)?)),
+        None => Ok(None),
+    }
+}
+
+/// Gives the file of a map this text.
+fn rewritten<D: Disk>(case: &Case<'_, D>, file: &MapFile, text: &[u8]) -> Verdict
+    requires file { IsFileOf (D.held case.now.disk.now) (string_bytes case.now.target.now.file)
+        case.now.target.now.url.items file.now }
+    requires text { IsComposedTo file.now.base case.now.url_bytes file.now.bytes.items text.now }
+{
+    let path = case.target.file.as_str();
+    match put(case.alloc, case.disk, path, file.stamp, text) {
+        Ok(()) => Verdict::Rewritten,
+        Err(failure) => Verdict::Failed(failure),
+    }
+}
+
+/// What becomes of a map where its composition is this text, of other bytes.
+fn changed<D: Disk>(case: &Case<'_, D>, file: &MapFile, rewrite: Rewrite, text: &[u8]) -> Outcome
+    requires file { IsFileOf (D.held case.now.disk.now) (string_bytes case.now.target.now.file)
+        case.now.target.now.url.items file.now }
+    requires text { IsComposedTo file.now.base case.now.url_bytes file.now.bytes.items text.now }
+{
+    let alloc = case.alloc;
+    let shows = rewrite == Rewrite::Diff;
+    let Ok((drops, changes)) = differences(alloc, &file.bytes, text, shows) else {
+        return plain(alloc, Verdict::Failed(Failure::Memory));
+    };
+    let verdict = match decided(rewrite, !drops.is_empty()) {
+        Deed::Tell | Deed::Show => Verdict::Changed,
+        Deed::Keep => Verdict::Kept,
+        Deed::Write => rewritten(case, file, text),
+    };
+    Outcome {
+        verdict,
+        drops,
+        changes,
+    }
+}
+
+/// What becomes of a map with those of a chain, with so many levels below the first; none where the
+/// composition would list too much.
+fn followed_outcome<D: Disk>(
+    case: &Case<'_, D>,
+    file: &MapFile,
+    map: &SourceMap,
+    chain: &Chain,
+    below: usize,
+    job: Job,
+) -> Result<Option<Outcome>, AllocError>
+    requires file { IsFileOf (D.held case.now.disk.now) (string_bytes case.now.target.now.file)
+        case.now.target.now.url.items file.now }
+    requires reads { reading_within file.now.base usual case.now.url_bytes file.now.bytes.items
+        ≡ Ok (Some map.now) }
+{
+    let text = composed_text(case.alloc, &file.base, map, chain, below, job)?;
+    let Some(text) = text else {
+        return Ok(None);
+    };
+    if text.as_slice() == file.bytes.as_slice() {
+        return Ok(Some(plain(case.alloc, Verdict::Unchanged)));
+    }
+    Ok(Some(changed(case, file, job.rewrite, &text)))
+}
+
+/// A map of whose sources nothing is said.
+fn alone(alloc: Global, verdict: Verdict) -> Composed {
+    Composed {
+        outcome: plain(alloc, verdict),
+        remarks: Vec::new(alloc),
+        is_whole: true,
+    }
+}
+
+/// The maps that its sources lead to.
+fn chain_for<D: Disk>(case: &Case<'_, D>, map: &SourceMap, job: Job) -> Result<Chain, AllocError> {
+    let target = case.target;
+    let script = target.script().as_bytes();
+    chain_of(
+        case.alloc,
+        case.disk,
+        target.home(),
+        script,
+        map,
+        job.url_bytes,
+    )
+}
+
+/// What becomes of a map, whose file is this, with the maps of its sources.
+fn with_chain<D: Disk>(
+    case: &Case<'_, D>,
+    file: &MapFile,
+    map: &SourceMap,
+    job: Job,
+) -> Result<Composed, AllocError>
+    requires file { IsFileOf (D.held case.now.disk.now) (string_bytes case.now.target.now.file)
+        case.now.target.now.url.items file.now }
+    requires reads { reading_within file.now.base usual case.now.url_bytes file.now.bytes.items
+        ≡ Ok (Some map.now) }
+{
+    let alloc = case.alloc;
+    let chain = chain_for(case, map, job)?;
+    let outcome = match chain.depth {
+        None | Some(0) => Some(plain(alloc, Verdict::Unchanged)),
+        Some(depth) => followed_outcome(case, file, map, &chain, depth.saturating_sub(1), job)?,
+    };
+    let is_whole = chain.depth.is_some() && chain.refusals.is_empty() && outcome.is_some();
+    let remarks = chain_remarks(alloc, map, chain, outcome.is_none())?;
+    Ok(Composed {
+        outcome: outcome.unwrap_or_else(|| plain(alloc, Verdict::Unchanged)),
+        remarks,
+        is_whole,
+    })
+}
+
+/// What becomes of a map that is looked at.
+fn looked_at<D: Disk>(case: &Case<'_, D>, job: Job) -> Composed {
+    let alloc = case.alloc;
+    let file = match case.file() {
+        Ok(file) => file,
+        Err(verdict) => return alone(alloc, verdict),
+    };
+    let map = match map_of(alloc, &file.base, &file.bytes, case.url_bytes) {
+        Ok(Some(map)) => map,
+        Ok(None) => return alone(alloc, Verdict::LongUrls(case.url_bytes)),
+        Err(error) => {
+            let text = MapText {
+                bytes: &file.bytes,
+                base: &file.base,
+                url_bytes: case.url_bytes,
+                is_file: true,
+            };
+            return alone(alloc, unread(alloc, &text, error));
+        }
+    };
+    match with_chain(case, &file, &map, job) {
+        Ok(made) => made,
+        Err(_) => alone(alloc, Verdict::Failed(Failure::Memory)),
+    }
+}
+
+/// Composes a map, and says what became of it. Answers the status of that.
+fn compose_map<E: Eprint + AllocGlobal, D: Disk, W: Write>(
+    host: &Host<'_, E, D>,
+    job: Job,
+    target: &Target,
+    writer: &mut Watched<W>,
+) -> Result<u8, Stop> {
+    let work = Work::Compare {
+        form: Form::Canonical { relative: true },
+        rewrite: job.rewrite,
+    };
+    let case = Case {
+        alloc: host.alloc(),
+        disk: host.disk,
+        target,
+        work,
+        url_bytes: job.url_bytes,
+    };
+    let Composed {
+        outcome,
+        remarks,
+        is_whole,
+    } = looked_at(&case, job);
+    for remark in &remarks {
+        host.say_of(target.file.as_str(), remark.as_str());
+    }
+    report(host, work, target.file.as_str(), &outcome, writer)?;
+    let least = if is_whole { 0 } else { 1 };
+    Ok(outcome.verdict.status().max(least))
+}
+
+/// Composes the maps that the paths name, each with those of its sources. Answers the status of a run that
+/// came to its end: the greatest of all maps'.
+pub(crate) fn compose<E: Eprint + AllocGlobal, D: Disk, W: Write>(
+    host: &Host<'_, E, D>,
+    asked: &MapsWords<'_>,
+    writer: &mut Watched<W>,
+) -> Result<u8, Stop> {
+    let targets = targets_of(host, None, &asked.paths)?;
+    let job = Job {
+        rewrite: asked.rewrite(),
+        thin: asked.options.has("thin"),
+        used: asked.options.has("used"),
+        url_bytes: asked.options.url_bytes(),
+    };
+    let mut worst = 0;
+    for target in &targets {
+        worst = compose_map(host, job, target, writer)?.max(worst);
+    }
+    Ok(worst)
+}

@@ -1,5 +1,0 @@
-use Rattle.std.proofs.Common.{length}
-use Rattle.smap_test_drivers.proofs.ranges.print_all.Given as goal
-
-abbrev pub decreases-maps : goal.decreases-maps
-decreases-maps l = length l.rest
