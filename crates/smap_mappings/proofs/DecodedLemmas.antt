@@ -151,6 +151,10 @@ module _ (P : Token → Type 0) where
   all_arranged holds (t ∷ ts) all =
       all_inserted t (arranged ts) (holds t all.0) (all_arranged holds ts all.1)
 
+-- Tokens in range have a string once they are arranged.
+pub arranged_encodable : (ts : List Token) → AllByRecursion IsPlaced ts → IsEncodable (arranged ts)
+arranged_encodable ts all = ((is_arranged ts).in_order, all_arranged IsPlaced (λ t placed. placed) ts all)
+
 all_decoded : (bounds : Bounds) (P : Token → Type 0) → ((t : Token) → TokenParts bounds t → P t)
     → (text : List ℕ) (ts : List Token) → decoded bounds text ≡ good ts → AllByRecursion P ts
 unfolding decoded

@@ -5,6 +5,7 @@ pub mod Tokens
 pub mod Arrangement
 pub mod Decoded
 pub mod Text
+pub mod Making
 pub mod Laws
 pub mod Steps
 pub mod Pieces

@@ -3,8 +3,8 @@
 //! [`decode`] reads it into tokens, [`encode`] writes tokens as their canonical string, and
 //! [`is_encodable`] says which tokens have one. [`MappingsReader`] reads a string that comes in pieces,
 //! [`Encoder`] writes one while its tokens come, and [`TextLength`] counts its bytes instead;
-//! [`count_segments`] says how many tokens a string can have. Of a script, [`line_widths`] says how wide its
-//! lines are, and [`ended`] ends its tokens there.
+//! [`count_segments`] says how many tokens a string can have. A [`Maker`] takes tokens one by one, in any
+//! order. Of a script, [`line_widths`] says how wide its lines are, and [`ended`] ends its tokens there.
 //!
 //! The numbers of a string are differences, so both directions carry five running values and make one pass:
 //! no string is split, and no segment is stored. Tokens are sorted only where a column falls. Memory is
@@ -21,6 +21,7 @@ mod encoding;
 mod ends;
 mod error;
 pub mod laws;
+mod maker;
 mod position;
 mod reader;
 mod running;
@@ -38,6 +39,7 @@ pub use encoder::Encoder;
 pub use encoding::encode;
 pub use ends::ended;
 pub use error::{MappingsError, Memory, SegmentKind, SegmentPlace};
+pub use maker::{AddError, Maker, fault_of_token};
 pub use position::Position;
 pub use reader::MappingsReader;
 pub use smap_vlq::{MAX_POSITION, NumberFault};

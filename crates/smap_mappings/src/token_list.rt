@@ -20,6 +20,16 @@ pub(crate) struct TokenList {
 }
 
 impl TokenList {
+    /// No tokens yet, which takes no memory.
+    pub(crate) fn new(alloc: Global) -> TokenList
+        ensures { result.list.items ≡ [] }
+    {
+        TokenList {
+            list: Vec::new(alloc),
+            falls: false,
+        }
+    }
+
     /// No tokens yet, with capacity for `room` of them.
     pub(crate) fn with_capacity(alloc: Global, room: usize) -> Result<TokenList, Memory>
         ensures items { IfOk result (λ g. g.list.items ≡ []) }
@@ -38,6 +48,7 @@ impl TokenList {
         ensures items { OnOk result (self.new.list.items ≡ self.old.list.items ++ token ∷ []) }
         ensures room { vec_capacity self.old.list ≤ vec_capacity self.new.list }
         ensures full { OnErr result (vec_capacity self.old.list ≤ vec_len self.old.list) }
+        ensures kept { OnErr result (self.new.list.items ≡ self.old.list.items) }
     {
         let falls = is_before_last(&self.list, &token);
         self.list.push(token)?;

@@ -30,7 +30,7 @@ use Rattle.std.proofs.lemmas.Bool.Decides.{nat_tests}
 use Rattle.std.proofs.lemmas.List.{map-append}
 use Rattle.std.proofs.lemmas.Option.{IfSome_then}
 use Rattle.std.proofs.lemmas.Result.{IfOk-at_ok}
-use Rattle.smap_record.proofs.SourceUrlLemmas.{resolve-own}
+use Rattle.smap_record.proofs.SourceUrlLemmas.{resolve_own}
 use Rattle.smap_record.proofs.StepLemmas.{if_ok, bind_assoc}
 use Rattle.smap_record.proofs.ListLemmas.{all_append, all_map, all_both, all_weaker}
 use Rattle.smap_record.proofs.JoinedLemmas.{none_after, join_NeverFalls}
@@ -151,7 +151,7 @@ module _ (base : Parts) (root : Option (List ℕ)) (ignored : List ℕ) where
       → IfOk (source_at i r) (IsOwnUrl base)
   own_url i source no_url at = tt
   own_url i source unstable at = tt
-  own_url i source (resolved u) at = resolve-own base root source u at
+  own_url i source (resolved u) at = resolve_own base root source u at
 
   own_urls : (i : ℕ) (source : Option (List ℕ))
       → IfOk (source_url base root i source) (λ url. IfSome url (IsOwnUrl base))

@@ -15,7 +15,7 @@ use std::marker::Model;
 /// The labels of a map, copied out of its JSON tree.
 #[derive(Drop)]
 pub(crate) struct OwnLabels {
-    file: Option<String>,
+    pub(crate) file: Option<String>,
 }
 
 impl Model for OwnLabels {

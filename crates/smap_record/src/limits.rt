@@ -62,7 +62,8 @@ impl Limits {
         self.items
     }
 
-    pub(crate) fn lines(self) -> u32
+    /// The greatest number of generated lines.
+    pub fn lines(self) -> u32
         ensures value { result ≡ self.lines }
         ensures most { result ≤ max_lines }
     {

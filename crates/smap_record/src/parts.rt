@@ -1,9 +1,10 @@
 //! A map that is made of its parts, and not read from a text.
-ghost use Rattle.std.specs.Prelude.{◌≡◌, IfOk};
+ghost use Rattle.std.specs.Prelude.{◌≡◌, IfOk, option_copied};
 ghost use Rattle.smap_record.specs.Listings.{IsListing};
 ghost use Rattle.smap_record.specs.Making.{listing_by};
 
-use crate::labels::labels_of;
+use crate::flat::copied;
+use crate::labels::{OwnLabels, labels_of};
 use crate::listing::Listing;
 use crate::map::SourceMap;
 use crate::sources::Sources;
@@ -39,5 +40,33 @@ impl SourceMap {
             tokens,
         };
         Ok(SourceMap::new(labels, listing))
+    }
+
+    /// The map of a generated file of this name, or of none, that lists these sources, names and mappings.
+    /// What it lists must be a listing, as for [`of_parts`](SourceMap::of_parts).
+    ///
+    /// # Errors
+    ///
+    /// `AllocError`.
+    pub fn of_file(
+        alloc: Global,
+        file: Option<&str>,
+        sources: Sources,
+        names: Vec<String>,
+        tokens: Vec<Token>,
+    ) -> Result<SourceMap, AllocError>
+        requires { IsListing (listing_by sources names.items tokens.items) }
+        ensures { IfOk result (λ m. m ≡ record {
+          labels = record { file = option_copied file.entry };
+          listing = listing_by sources names.items tokens.items;
+        }) }
+    {
+        let file = copied(alloc, file)?;
+        let listing = Listing {
+            sources,
+            names,
+            tokens,
+        };
+        Ok(SourceMap::new(OwnLabels { file }, listing))
     }
 }

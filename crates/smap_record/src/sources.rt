@@ -5,6 +5,7 @@ ghost use Rattle.smap_record.specs.declared.fault.ReadError.TheVariants.{Memory}
 ghost use Rattle.smap_record.specs.Record.{distinct as each_once, no_entry, same_entry};
 ghost use Rattle.smap_record.specs.Numbered.{Numbers};
 ghost use Rattle.smap_record.specs.Entries.{entry_of};
+ghost use Rattle.smap_record.specs.Making.{entry_by};
 ghost use Rattle.smap_record.specs.Views.{entry_of_view};
 
 use crate::entry::SourceEntry;
@@ -82,7 +83,22 @@ impl Sources {
     {
         let url = copied(alloc, source.url)?;
         let content = copied(alloc, source.content)?;
-        let ignored = source.ignored;
+        self.with_owned(url, content, source.ignored)
+    }
+
+    /// Lists one more source, of these strings.
+    ///
+    /// # Errors
+    ///
+    /// `AllocError`.
+    pub fn with_owned(
+        self,
+        url: Option<String>,
+        content: Option<String>,
+        ignored: bool,
+    ) -> Result<Sources, AllocError>
+        ensures { IfOk result (λ s. s ≡ self ++ entry_by url content ignored ∷ []) }
+    {
         let Ok(listed) = self.with(SourceEntry {
             url,
             content,

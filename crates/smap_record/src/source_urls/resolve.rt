@@ -1,10 +1,13 @@
 //! The URL of one source: the prefix and the source parsed against the base, and the text of that URL parsed
 //! once more, to see that it is its own URL.
-ghost use Rattle.std.specs.Prelude.{◌≡◌, ◌++◌, string_bytes, option_copied, IfOk};
+ghost use Rattle.std.specs.Prelude.{◌≡◌, ◌++◌, string_bytes, option_copied, IfOk, None};
 ghost use Rattle.smap_record.specs.SourceUrls.{prefix_of, resolve as url_of};
 ghost use Rattle.smap_record.specs.Resolving.{GivesSource, IsNotUnstable, if_same_again, unless_out_of_room};
+ghost use Rattle.smap_record.specs.Results.{ReturnsUrl};
+ghost use Rattle.smap_record.specs.Fitting.{IsOwnUrl};
 ghost use Rattle.url.specs.Parts.{serialize};
 
+use crate::fault::BaseFault;
 use crate::source_urls::Base;
 use std::alloc::{AllocError, Global};
 use url::{ParseError, ParseResult, Url};
@@ -83,5 +86,25 @@ pub(crate) fn resolve(
     match String::from_str(alloc, url.as_str()) {
         Ok(text) => Ok(text),
         Err(_) => Err(SourceFault::Memory),
+    }
+}
+
+impl Base {
+    /// The URL that a source has against this base in a map without a `sourceRoot`. It is its own URL: as a
+    /// source it has itself.
+    ///
+    /// # Errors
+    ///
+    /// `NotUrl` where the source leads to no URL; `Memory`.
+    #[tactic(auto, using(crate::proofs::SourceUrlLemmas::resolve_own))]
+    pub fn source_url(&self, alloc: Global, source: &str) -> Result<String, BaseFault>
+        ensures gives { ReturnsUrl result (url_of self.now None source.now) }
+        ensures own { IfOk result (λ text. IsOwnUrl self.now (string_bytes text)) }
+    {
+        match resolve(alloc, self, None, source) {
+            Ok(text) => Ok(text),
+            Err(SourceFault::NoUrl | SourceFault::Unstable) => Err(BaseFault::NotUrl),
+            Err(SourceFault::Memory) => Err(BaseFault::Memory),
+        }
     }
 }
