@@ -9,8 +9,10 @@ ghost use Rattle.smap_compose.specs.Building.{map_made, mapping_due, name_due, n
 ghost use Rattle.smap_compose.specs.Building.{source_url};
 
 use crate::error::BuildError;
-use crate::tables::{SourceTable, all_names, all_sources, copied};
-use crate::tables::{number_name, number_source, set_content, set_ignored};
+use crate::tables::{
+    SourceTable, all_names, all_sources, copied, number_name, number_source, set_content,
+    set_ignored,
+};
 use indexmap::{IndexMap, IndexSet};
 use smap_mappings::{AddError, Bounds, Maker, SegmentKind, Token, fault_of_token};
 use smap_record::{Base, BaseFault, Limits, SourceMap};

@@ -17,10 +17,12 @@ returns-in-Some c =
 pub returns-then-number-items : goal.returns-then-number-items
 returns-then-number-items c =
     let rows = c.args.sources.now.entries in
-    let url = option_map string_bytes c.args.url in
-    (refl, λ _. numbered_full c.args.items (has_url url) (only_url url) (entries_of rows)
-    (sym (url_place rows c.args.url) ∙ sym c.get_index_of.ensures.index ∙ c.in_default.is)
-    (omega (arith, length-map rows entry, c.len-number.ensures.len, c.if-number-items.true)))
+    let url = option_map string_bytes c.args.url in (
+      refl,
+      λ _. numbered_full c.args.items (has_url url) (only_url url) (entries_of rows)
+          (sym (url_place rows c.args.url) ∙ sym c.get_index_of.ensures.index ∙ c.in_default.is)
+          (omega (arith, length-map rows entry, c.len-number.ensures.len, c.if-number-items.true)),
+    )
 
 pub returns : goal.returns
 returns c =

@@ -10,5 +10,8 @@ returns-in-Some c = changed_at c.args.sources.now.entries c.args.number c.in-Som
     (sym c.get_index_mut.ensures.value ∙ ap option_copied_mut c.in-Some.is) (λ url. refl)
 
 pub returns-in-None : goal.returns-in-None
-returns-in-None c = (refl, λ _. none_changed c.args.sources.now.entries c.args.number _
-    (sym c.get_index_mut.ensures.value ∙ ap option_copied_mut c.in-None.is))
+returns-in-None c = (
+  refl,
+  λ _. none_changed c.args.sources.now.entries c.args.number _
+      (sym c.get_index_mut.ensures.value ∙ ap option_copied_mut c.in-None.is),
+)

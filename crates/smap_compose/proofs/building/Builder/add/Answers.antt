@@ -1,4 +1,3 @@
-use Rattle.std.proofs.Common.{refl}
 use Rattle.smap_compose.specs.Built.{made_of}
 use Rattle.smap_compose.proofs.BuildingLemmas.{added}
 use Rattle.smap_compose.proofs.building.Builder.add.Goals as goal
