@@ -27,7 +27,10 @@ fn mapping(generated: (u32, u32), source: u32, place: (u32, u32), name: Option<u
 }
 
 /// What the builder is told of its sources and its name; the numbers that it gives.
-fn with_sources(rt: &(impl Abort + AllocGlobal), builder: &mut Builder) -> Result<[u32; 4], BuildError> {
+fn with_sources(
+    rt: &(impl Abort + AllocGlobal),
+    builder: &mut Builder,
+) -> Result<[u32; 4], BuildError> {
     let alloc = rt.alloc();
     let first = builder.source(alloc, Some("a.ts"))?;
     let second = builder.source(alloc, Some("b.ts"))?;
@@ -78,7 +81,12 @@ fn are_refused(rt: &(impl Abort + AllocGlobal), builder: &mut Builder) {
 /// Asserts why a mapping isn't added.
 fn is_refused(rt: &impl Abort, builder: &mut Builder, token: Token, kind: SegmentKind) {
     equal(rt, token, builder.fault_of(token), Some(kind));
-    equal(rt, token, builder.add(token), Err(BuildError::Mapping(kind)));
+    equal(
+        rt,
+        token,
+        builder.add(token),
+        Err(BuildError::Mapping(kind)),
+    );
 }
 
 #[test]
@@ -90,10 +98,27 @@ fn each_fault_is_told(rt: HostRuntime) {
         ((2, 0), 1, (0, 0), None, SegmentKind::GeneratedLine),
         ((1, 1 << 31), 1, (0, 0), None, SegmentKind::Column),
         ((1, 0), 1, (1 << 31, 0), None, SegmentKind::Source),
-        ((1, 0), 0, (1 << 31, 1 << 31), None, SegmentKind::OriginalLine),
-        ((1, 0), 0, (0, 1 << 31), Some(1), SegmentKind::OriginalColumn),
+        (
+            (1, 0),
+            0,
+            (1 << 31, 1 << 31),
+            None,
+            SegmentKind::OriginalLine,
+        ),
+        (
+            (1, 0),
+            0,
+            (0, 1 << 31),
+            Some(1),
+            SegmentKind::OriginalColumn,
+        ),
         ((1, 0), 0, (0, 0), Some(1), SegmentKind::Name),
     ] {
-        is_refused(&rt, &mut builder, mapping(generated, source, place, name), kind);
+        is_refused(
+            &rt,
+            &mut builder,
+            mapping(generated, source, place, name),
+            kind,
+        );
     }
 }
