@@ -41,14 +41,17 @@ fn with_sources(
     Ok([first, second, again, name])
 }
 
-/// Builds the map, whose mappings are added last to first.
+/// Builds the map, whose mappings aren't added in their order.
 fn build(rt: &(impl Abort + AllocGlobal), mut builder: Builder) -> Result<SourceMap, BuildError> {
     builder.set_file(rt.alloc(), Some("out.js"))?;
     let numbers = with_sources(rt, &mut builder)?;
     equal(rt, "numbers", numbers, [0, 1, 0, 0]);
     builder.add(mapping((1, 4), 1, (0, 0), None))?;
-    builder.add(mapping((0, 0), 0, (2, 1), Some(0)))?;
-    builder.add(mapping((1, 4), 0, (5, 0), None))?;
+    let others = [
+        mapping((0, 0), 0, (2, 1), Some(0)),
+        mapping((1, 4), 0, (5, 0), None),
+    ];
+    equal(rt, "others", builder.add_all(&others), Ok(()));
     Ok(builder.finish(rt.alloc())?)
 }
 
@@ -78,15 +81,13 @@ fn are_refused(rt: &(impl Abort + AllocGlobal), builder: &mut Builder) {
     equal(rt, "second name", second, Err(BuildError::TooMany));
 }
 
-/// Asserts why a mapping isn't added.
+/// Asserts why a mapping isn't added, and that it keeps one before it from being added with it.
 fn is_refused(rt: &impl Abort, builder: &mut Builder, token: Token, kind: SegmentKind) {
     equal(rt, token, builder.fault_of(token), Some(kind));
-    equal(
-        rt,
-        token,
-        builder.add(token),
-        Err(BuildError::Mapping(kind)),
-    );
+    let fault = BuildError::Mapping(kind);
+    equal(rt, token, builder.add(token), Err(fault));
+    let both = [mapping((0, 0), 0, (0, 0), None), token];
+    equal(rt, token, builder.add_all(&both), Err((1, fault)));
 }
 
 #[test]
