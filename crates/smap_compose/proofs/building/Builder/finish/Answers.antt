@@ -14,9 +14,9 @@ of_file-requires c =
 
 pub returns-clause-fits : goal.returns-clause-fits
 returns-clause-fits c =
+    let arranged = c.in_ok-tokens.ensures.arranged in
     let encodable = c.in_ok-tokens.ensures.encodable c.self.invariant.placed in
-    let fits = finished (made_of c.self.inside) c.self.invariant (rw c.in_ok-tokens.ensures.arranged at encodable)
-    in
+    let fits = finished (made_of c.self.inside) c.self.invariant (rw arranged at encodable) in
     let self = c.args.self in
     IfOk-weaker c.of_file.result _ (λ _. ListingFits self.base self.limits (listing_made self))
     (λ _ _. rw (← c.self.view_is) fits) c.of_file.ensures
