@@ -1,8 +1,10 @@
+pub mod BaseLemmas
 pub mod ChainLemmas
 pub mod ClosingLemmas
 pub mod DeepLemmas
 mod Examples
 pub mod FitLemmas
+pub mod IdentityLemmas
 pub mod LeadingLemmas
 pub mod LookupLemmas
 pub mod MappingLemmas
