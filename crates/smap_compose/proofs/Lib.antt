@@ -3,6 +3,7 @@ pub mod ChainLemmas
 pub mod ClosingLemmas
 pub mod DeepLemmas
 mod Examples
+pub mod FateLemmas
 pub mod FitLemmas
 pub mod IdentityLemmas
 pub mod LeadingLemmas
@@ -12,6 +13,7 @@ pub mod OnceLemmas
 pub mod SourceLemmas
 pub mod SpareLemmas
 pub mod ThinLemmas
+pub mod TraceLemmas
 pub mod StandingLemmas
 pub mod FollowingLemmas
 pub mod JoiningLemmas
