@@ -1,15 +1,13 @@
 -- Maps that were read against bases of their own.
-use Rattle.std.proofs.Common.{◌≡◌, ◌∙◌, ℕ, ◌≤◌, List, length, Option, Some, None, refl, sym, ap, subst}
+use Rattle.std.proofs.Common.{ℕ, List, Option, Some, None, refl}
 use Rattle.std.specs.Prelude.{IfSome}
-use Rattle.std.specs.List.{AllByRecursion}
 use Rattle.url.specs.Parts.{serialize}
 use Rattle.url.proofs.Theorems.{parse_url-serialize}
-use Rattle.smap_record.specs.Record.{Allowed, Entry, Parts, Record}
+use Rattle.smap_record.specs.Record.{Allowed, Parts, Record}
 use Rattle.smap_record.specs.Fitting.{Fits, HasOwnUrl, IsOwnUrl}
 use Rattle.smap_record.specs.SourceUrls.{resolve}
 use Rattle.smap_record.proofs.EqualLemmas.{own_bytes}
 use Rattle.smap_record.proofs.ListLemmas.{all_weaker}
-use Rattle.smap_compose.specs.Composing.{Maps}
 use Rattle.smap_compose.specs.Laws.{BasesMayDiffer, FitsOwnBase, IsUrlText}
 use Rattle.smap_compose.proofs.FitLemmas.{composed_fits}
 

@@ -142,33 +142,15 @@ module _ (later : List Link) (hide : Bool) (f : FrameParts) (o : Origin) where
   abbrev LeadsFurther : Option Origin → Type 0
   LeadsFurther found = option_and_then origin_text found ≡ None → ⊥
 
-  shown_at : (text url to : List ℕ) (p : Origin) → (hide && o.source.ignored) ≡ false
-      → p.source.url ≡ Some to
-      → at_last text (fate_at hide (at_original url) p) ≡ fate_at hide f (led_on o p)
-  shown_at text url to p shown is =
-      let both = shown_both hide o.source.ignored p.source.ignored shown in
-      elim (cases_Bool (hide && p.source.ignored)) [
-        | inl h ↦ rw (both, h) refl
-        | inr h ↦ rw (both, h, is) refl
-      ]
-
-  by_url : (text url : List ℕ) (p : Origin) (to : Option (List ℕ)) → (hide && o.source.ignored) ≡ false
-      → p.source.url ≡ to → LeadsFurther (Some p)
-      → at_last text (fate_at hide (at_original url) p) ≡ fate_at hide f (led_on o p)
-  by_url text url p None shown is on = absurd (on (rw is refl))
-  by_url text url p (Some to) shown is on = shown_at text url to p shown is
-
   by_found : (text url : List ℕ) (found : Option Origin) → (hide && o.source.ignored) ≡ false
       → LeadsFurther found
       → at_last text (option_map_or (fate_at hide (at_original url)) found kept)
       ≡ option_map_or (fate_at hide f) (option_map (led_on o) found) kept
-  by_found text url None shown on = absurd (on refl)
-  by_found text url (Some p) shown on = by_url text url p p.source.url shown refl on
+  by_found text url found shown on = grind arith
 
   hidden_found : (found : Option Origin) → (hide && o.source.ignored) ≡ true → LeadsFurther found
       → option_map_or (fate_at hide f) (option_map (led_on o) found) kept ≡ dropped
-  hidden_found None h on = absurd (on refl)
-  hidden_found (Some p) h on = rw (hidden_both hide o.source.ignored p.source.ignored h) refl
+  hidden_found found h on = grind arith
 
   -- where the original leads, if its source has this map or none
   abbrev leads : Option Record → Option Origin
@@ -333,26 +315,13 @@ module _ (link : Link) (later : List Link) (hide : Bool) (text : List ℕ)
 
 -- ---- a line that ends between
 
-kept_at : (f : FrameParts) (p : Origin) → p.source.url ≡ None → fate_at false f p ≡ kept
-kept_at f p is = rw is refl
-
-no_url : (p : Origin) (url : Option (List ℕ)) → p.source.url ≡ url → origin_text p ≡ None
-    → p.source.url ≡ None
-no_url p None is nothing = is
-no_url p (Some url) is nothing = absurd (never (rw is at nothing))
-  where
-    never : {x : List ℕ} → ◌≡◌ {A = Option (List ℕ)} (Some x) None → ⊥
-    never e = cc
-
 left_at : (f : FrameParts) (found : Option Origin) → option_and_then origin_text found ≡ None
     → option_map_or (fate_at false f) found kept ≡ kept
-left_at f None nothing = refl
-left_at f (Some p) nothing = kept_at f p (no_url p p.source.url refl nothing)
+left_at f found nothing = grind arith
 
 left_led : (f : FrameParts) (o : Origin) (found : Option Origin) → option_and_then origin_text found ≡ None
     → option_map_or (fate_at false f) (option_map (led_on o) found) kept ≡ kept
-left_led f o None nothing = refl
-left_led f o (Some p) nothing = kept_at f (led_on o p) (no_url p p.source.url refl nothing)
+left_led f o found nothing = grind arith
 
 module _ (link : Link) (later : List Link) (text : List ℕ)
     (stand : AllStand link.1) (b : EndsBetween link later text)

@@ -1,18 +1,18 @@
 -- Maps that lead each position to itself.
 use Rattle.std.proofs.Common.{◌≡◌, ◌∙◌, ℕ, ◌≤◌, ◌<◌, Bool, true, false, List, [], ◌∷◌, map, Option, Some}
 use Rattle.std.proofs.Common.{None, refl, sym, ap, arith, inl, inr, append-nil}
-use Rattle.std.specs.Prelude.{◌==◌, ◌&&◌, ◌||◌, IfSome, flat_map, if◌then◌else◌, option_map, option_and_then}
+use Rattle.std.specs.Prelude.{◌||◌, IfSome, flat_map, if◌then◌else◌, option_map, option_and_then}
 use Rattle.std.specs.List.{AllByRecursion, IsDistinct}
 use Rattle.std.specs.Option.{option_map_or, option_or}
 use Rattle.std.proofs.lemmas.Bool.{cases_Bool}
 use Rattle.std.proofs.lemmas.Bool.Decides.{nat_tests}
 use Rattle.smap_record.specs.Record.{Entry, Mapping, Origin, Record, distinct, same_entry}
 use Rattle.smap_trace.specs.Lookup.{is_within, mapping_at}
-use Rattle.smap_compose.specs.Composing.{Maps, composition, followed, led_on, origin_in, sources_through}
+use Rattle.smap_compose.specs.Composing.{Maps, followed, led_on, origin_in, sources_through}
 use Rattle.smap_compose.specs.Composing.{through, under}
-use Rattle.smap_compose.specs.Laws.{FindsItself, ItselfInside, ItselfOutside, itself_of, share_position}
+use Rattle.smap_compose.specs.Laws.{FindsItself, ItselfInside, ItselfOutside, share_position}
 use Rattle.smap_compose.specs.Laws.{to_itself}
-use Rattle.smap_compose.specs.Thinning.{Follows, Rises, is_overtaken, is_spare, thin_after, thinned}
+use Rattle.smap_compose.specs.Thinning.{Follows, Rises, is_overtaken, thin_after}
 use Rattle.smap_compose.proofs.SourceLemmas.{distinct-once}
 use Rattle.smap_compose.proofs.SpareLemmas.{under_none}
 use Rattle.smap_compose.proofs.ThinLemmas.{or_none, or_or}

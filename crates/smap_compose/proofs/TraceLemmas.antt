@@ -1,7 +1,7 @@
 -- Traces that are translated by a map, and then by those of its sources.
 use Rattle.std.proofs.Common.{◌≡◌, ◌∙◌, ◌⊎◌, inl, inr, ℕ, ◌-◌, ◌<◌, ◌==◌, Bool, true, false, List, [], ◌∷◌}
 use Rattle.std.proofs.Common.{◌++◌, length, take, flat_map, refl, sym, ap, subst, arith, append-nil, None}
-use Rattle.std.proofs.Common.{length-append, codes, decimal, ◌≢◌, Option, Some, bytes_eq}
+use Rattle.std.proofs.Common.{length-append, codes, decimal, ◌≢◌, Option, Some, bytes_eq, filter, true≢false}
 use Rattle.std.proofs.Math.Seq.{take-append_seam}
 use Rattle.std.specs.Prelude.{Contains, IfSome, option_and_then}
 use Rattle.std.specs.Option.{option_map_or}
@@ -12,19 +12,22 @@ use Rattle.std.proofs.lemmas.Slice.Eq.{ends_is}
 use Rattle.smap_frames.specs.Frame.{FrameParts, IsFrame, lacks}
 use Rattle.smap_frames.specs.Reading.{frame_of}
 use Rattle.smap_record.specs.Record.{Origin, Record}
+use Rattle.smap_record.proofs.EqualLemmas.{own_bytes}
 use Rattle.smap_record.proofs.ListLemmas.{all_weaker}
 use Rattle.smap_io.specs.Lines.{IsWhole, feed_of, has_line_feed, lines_of, without_line_feed}
 use Rattle.smap_io.proofs.LineLemmas.{lines_of-last, lines_of-line}
 use Rattle.smap_trace.specs.Scripts.{map_of}
 use Rattle.smap_trace.specs.Translation.{Fate, dropped, fate, fate_of, kept, line_translation, translated}
 use Rattle.smap_trace.specs.Translation.{fate_in, origin_text, translation, written}
+use Rattle.smap_trace.specs.TraceLaws.{Names}
+use Rattle.smap_trace.proofs.LeftOutLemmas.{unnamed_left_out}
 use Rattle.smap_trace.proofs.LackLemmas.{each_lacks}
 use Rattle.smap_trace.proofs.LineLemmas.{translation-append}
-use Rattle.smap_trace.proofs.MemberLemmas.{contains_first, contains_later}
-use Rattle.smap_compose.specs.Chain.{Link, closed, led_to}
+use Rattle.smap_trace.proofs.MemberLemmas.{contains_first, contains_later, first_or_later}
+use Rattle.smap_compose.specs.Chain.{Link, chained, closed, led_to}
 use Rattle.smap_compose.specs.Composing.{composition, origin_in}
 use Rattle.smap_compose.specs.TraceLaws.{AllStand, CanStand, ChainTranslates, EndsBetween, LeadsOn}
-use Rattle.smap_compose.specs.TraceLaws.{TraceIsFollowed, at_once}
+use Rattle.smap_compose.specs.TraceLaws.{ComposedTranslates, TraceIsFollowed, at_once}
 use Rattle.smap_compose.proofs.FateLemmas.{Framed, at_last, first_framed, found_origin, same_fate, twice}
 
 -- ---- a line and its line feed
@@ -271,16 +274,16 @@ lines_stay hide [] = refl
 lines_stay hide (line ∷ lines) =
     rw (line_stays hide line (frame_of (without_line_feed line)), lines_stay hide lines) refl
 
+some_map : (r : Record) → Some r ≡ None → ⊥
+some_map r e = cc
+
 -- composed maps are of the same scripts
 none_closed : (links : List Link) (url : List ℕ) → map_of links url ≡ None → map_of (closed links) url ≡ None
 none_closed [] url none = refl
 none_closed (link ∷ later) url none = elim (cases_Bool (bytes_eq link.0 url)) [
-  | inl e ↦ absurd (never link.1 (rw e at none))
+  | inl e ↦ absurd (some_map link.1 (rw e at none))
   | inr e ↦ rw e (none_closed later url (rw e at none))
 ]
-  where
-    never : (r : Record) → Some r ≡ None → ⊥
-    never r e = cc
 
 module _ (link : Link) (later : List Link)
     (on : AllByRecursion (λ m. IfSome m.origin (LeadsOn later)) link.1.mappings) where
@@ -306,3 +309,48 @@ chain_translates (link ∷ later) hide trace all =
     ∙ trace_followed link (closed later) hide trace (none_closed later link.0 all.0)
     (all_stand link (closed later) all.1)
     (λ line c. none_between link (closed later) all.1 (without_line_feed line))
+
+-- ---- the composition of a chain alone
+
+-- each composed map is of the script of one of the links
+script_of : (links : List Link) (s : Link) → Contains (closed links) s
+    → (t : Link) × Contains links t × (t.0 ≡ s.0)
+script_of [] s c = absurd (omega (arith, c.1))
+script_of (link ∷ later) s c =
+    elim (first_or_later (link.0, composition link.1 (led_to (closed later))) s (closed later) c) [
+      | inl same ↦ (link, contains_first link later, ap (λ (x : Link). x.0) same)
+      | inr there ↦
+          let t = script_of later s there in (t.0, contains_later link t.0 later t.1, t.2)
+    ]
+
+module _ (url : List ℕ) where
+  abbrev is_named : Link → Bool
+  is_named s = bytes_eq s.0 url
+
+  none_named : (links : List Link) → map_of links url ≡ None → filter is_named (closed links) ≡ []
+  none_named [] none = refl
+  none_named (link ∷ later) none = elim (cases_Bool (bytes_eq link.0 url)) [
+    | inl e ↦ absurd (some_map link.1 (rw e at none))
+    | inr e ↦ rw e (none_named later (rw e at none))
+  ]
+
+pub composed_translates : ComposedTranslates
+composed_translates link later hide trace all none =
+    chain_translates (link ∷ later) hide trace all
+    ∙ (unnamed_left_out (is_named link.0) (closed (link ∷ later)) hide trace left).0
+    ∙ ap (λ scripts. translation scripts hide trace) alone
+  where
+    own : Link
+    own = (link.0, chained link.1 later)
+
+    left : (s : Link) → Contains (own ∷ closed later) s → is_named link.0 s ≡ false → Names trace s.0 → ⊥
+    left s c other named = elim (first_or_later own s (closed later) c) [
+      | inl same ↦ true≢false (sym (own_bytes link.0)
+          ∙ ap (λ (x : Link). bytes_eq x.0 link.0) same ∙ other)
+      | inr there ↦
+          let t = script_of later s there in
+          none t.0 t.1 (subst (Names trace) (sym t.2) named)
+    ]
+
+    alone : filter (is_named link.0) (own ∷ closed later) ≡ own ∷ []
+    alone = rw (own_bytes link.0, none_named link.0 later all.0) refl

@@ -5,9 +5,10 @@ use Rattle.std.specs.List.{AllByRecursion}
 use Rattle.smap_frames.specs.Frame.{FrameParts, IsFrame}
 use Rattle.smap_record.specs.Record.{Origin, Record}
 use Rattle.smap_trace.specs.RenamedFrame.{IsPut}
+use Rattle.smap_trace.specs.TraceLaws.{Names}
 use Rattle.smap_trace.specs.Translation.{fate_of, kept, lines_of, map_of, origin_at, origin_text, translated}
 use Rattle.smap_trace.specs.Translation.{translation, without_line_feed}
-use Rattle.smap_compose.specs.Chain.{Link, closed, led_to}
+use Rattle.smap_compose.specs.Chain.{Link, chained, closed, led_to}
 use Rattle.smap_compose.specs.Composing.{composition, origin_in}
 
 -- Its position can stand in a frame: where its source has a URL, that is not empty and has no space.
@@ -73,3 +74,9 @@ AllLeadOn (link ∷ later) = (map_of later link.0 ≡ None)
 abbrev pub ChainTranslates : Type 0
 ChainTranslates = (links : List Link) (hide : Bool) (trace : List ℕ) → AllLeadOn links
     → in_turn links hide trace ≡ translation (closed links) hide trace
+
+-- If it has no frames of the later scripts, the composition of the chain translates it alone.
+abbrev pub ComposedTranslates : Type 0
+ComposedTranslates = (link : Link) (later : List Link) (hide : Bool) (trace : List ℕ)
+    → AllLeadOn (link ∷ later) → ((s : Link) → Contains later s → Names trace s.0 → ⊥)
+    → in_turn (link ∷ later) hide trace ≡ translation ((link.0, chained link.1 later) ∷ []) hide trace
