@@ -178,14 +178,13 @@ module _ (e : Entry) (r : Record) (plain : e.ignored ≡ false) where
   not_overtaken m [] apart = refl
   not_overtaken m (n ∷ ns) apart = apart.0
 
-  cons_same : (m n : Mapping) (ms ns : List Mapping) → n ≡ m → ns ≡ ms → n ∷ ns ≡ m ∷ ms
-  cons_same m n ms ns f g = rw (f, g) refl
-
   all_same : (ms : List Mapping) → AreFound ms → IsDistinct share_position ms → all_again ms ≡ ms
   unfolding IsDistinct
   all_same [] found apart = refl
-  all_same (m ∷ ms) found apart = cons_same m (again m) ms (all_again ms)
-      (same_again m (found.0 (not_overtaken m ms apart.0))) (all_same ms found.1 apart.1)
+  all_same (m ∷ ms) found apart =
+      let first = same_again m (found.0 (not_overtaken m ms apart.0)) in
+      let rest = all_same ms found.1 apart.1 in
+      cc
 
   sources_same : IsDistinct same_entry r.sources
       → distinct same_entry (flat_map (sources_through (λ x. Some r)) (e ∷ [])) ≡ r.sources

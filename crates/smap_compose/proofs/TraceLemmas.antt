@@ -217,9 +217,6 @@ module _ (link : Link) (later : List Link) (hide : Bool) where
     end_of text feed (inl e) = inl e
     end_of text feed (inr e) = inr e.0
 
-    both_alike : (a b c d : List ℕ) → a ≡ b → c ≡ d → a ++ c ≡ b ++ d
-    both_alike a b c d e f = rw (e, f) refl
-
     lines_twice : (lines : List (List ℕ)) → AreLines lines
         → ((line : List ℕ) → Contains lines line → EndsBetween link later (without_line_feed line) → ⊥)
         → translation later hide (flat_map first lines) ≡ flat_map once lines
@@ -236,9 +233,8 @@ module _ (link : Link) (later : List Link) (hide : Bool) where
         ∙ ap (λ became. written became line)
         (same_fate link later hide text stand apart (none line (contains_first line lines))) in
         let rest = lines_twice lines are.1 (λ l c. none l (contains_later line l lines c)) in
-        in_parts line lines is end
-        ∙ both_alike (translation later hide (first line)) (once line)
-        (translation later hide (flat_map first lines)) (flat_map once lines) here rest
+        let split = in_parts line lines is end in
+        cc
 
 pub trace_followed : TraceIsFollowed
 trace_followed link later hide trace apart stand none =
