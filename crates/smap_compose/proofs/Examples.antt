@@ -1,17 +1,21 @@
 -- Known answers, computed by the definitions.
 use Rattle.std.proofs.Common.{◌≡◌, ℕ, List, [], ◌∷◌, Option, Some, None, Bool, true, false, refl}
-use Rattle.std.specs.Prelude.{codes}
 use Rattle.std.proofs.Common.{Result, Ok, Err}
+use Rattle.std.specs.Prelude.{codes, ◌++◌}
+use Rattle.std.specs.Fmt.{digits}
 use Rattle.smap_vlq.specs.Number.{digit_byte, shortest_digits, spelling}
 use Rattle.smap_mappings.specs.Text.{mappings_text}
+use Rattle.smap_frames.specs.Reading.{frame_of}
 use Rattle.smap_record.specs.Record.{Entry, Origin, Mapping, Parts, Record, distinct, no_labels, record_of}
 use Rattle.smap_record.specs.Record.{usual}
+use Rattle.smap_trace.specs.Translation.{translation}
 use Rattle.smap_compose.specs.declared.error.BuildError.{BuildError}
 use Rattle.smap_compose.specs.Building.{Made, content_due, ignored_due, listing_made, map_made, mapping_due}
 use Rattle.smap_compose.specs.Building.{name_due, nothing, put_sources, with_url, within}
-use Rattle.smap_compose.specs.Chain.{chained, led_to, unled}
+use Rattle.smap_compose.specs.Chain.{Link, chained, closed, led_to, unled}
 use Rattle.smap_compose.specs.Composing.{composition}
 use Rattle.smap_compose.specs.Thinning.{thinned}
+use Rattle.smap_compose.specs.TraceLaws.{in_turn}
 use Rattle.smap_compose.specs.Using.{used}
 
 abbrev source : List ℕ → Entry
@@ -201,3 +205,26 @@ record_built : (base : Parts) → record_of (map_made (built base)) ≡ labelled
     ∷ mapped 1 4 (at (with_content (codes "b.ts") (codes "B") true) 0 0) ∷ mapped 1 4 (at a_ts 5 0) ∷ [])
 unfolding distinct
 record_built base = refl
+
+-- ---- a trace by one map after another, and at once
+
+abbrev steps : List Link
+steps = (codes "out.js", says (m_js ∷ []) (mapped 0 0 (at m_js 0 0) ∷ mapped 0 4 (at m_js 1 0) ∷ []))
+    ∷ (codes "m.js", says (a_ts ∷ []) (mapped 0 0 (at a_ts 6 2) ∷ [])) ∷ []
+
+abbrev logged : List ℕ
+logged = codes "    at f (out.js:1:2)\n    at m.js:1:4\n"
+
+-- The last frame leads to where `m.js` has nothing.
+abbrev ends_between : List ℕ
+ends_between = codes "g@out.js:1:5"
+
+one_by_one : in_turn steps false (logged ++ ends_between)
+    ≡ codes "    at f (a.ts:7:3)\n    at a.ts:7:3\ng@m.js:2:1"
+unfolding digits frame_of
+one_by_one = refl
+
+all_at_once : translation (closed steps) false (logged ++ ends_between)
+    ≡ codes "    at f (a.ts:7:3)\n    at a.ts:7:3\ng@out.js:1:5"
+unfolding digits frame_of
+all_at_once = refl
