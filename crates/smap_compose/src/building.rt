@@ -203,7 +203,22 @@ impl Builder {
         ensures map { IfOk result (λ m. m ≡ map_made self) }
         ensures fits { OnOk result (ListingFits self.base self.limits (listing_made self)) }
     {
+        let (_, map) = self.finish_with_base(alloc)?;
+        Ok(map)
+    }
+
+    /// The map, and the base of its sources.
+    ///
+    /// # Errors
+    ///
+    /// `AllocError`.
+    pub fn finish_with_base(self, alloc: Global) -> Result<(Base, SourceMap), AllocError>
+        ensures base { IfOk result (λ r. r.0 ≡ self.base) }
+        ensures map { IfOk result (λ r. r.1 ≡ map_made self) }
+        ensures fits { OnOk result (ListingFits self.base self.limits (listing_made self)) }
+    {
         let Builder {
+            base,
             file,
             sources,
             names,
@@ -213,6 +228,7 @@ impl Builder {
         let sources = all_sources(alloc, sources)?;
         let names = all_names(alloc, names)?;
         let tokens = tokens.finish()?;
-        SourceMap::of_file(alloc, file.as_deref(), sources, names, tokens)
+        let map = SourceMap::of_file(alloc, file.as_deref(), sources, names, tokens)?;
+        Ok((base, map))
     }
 }
