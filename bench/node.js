@@ -5,19 +5,20 @@
 //     NODE_PATH=/usr/share/nodejs node bench/node.js [--runs N] [--into docs/PERFORMANCE.md]
 //
 // The package is timed over its addon, and over WebAssembly. The others are @jridgewell/trace-mapping and
-// source-map, where NODE_PATH has them, and Node's own module.SourceMap. What isn't there is left out. For maps of three sizes, made by make_map.py, it prints a table: opening with the first
-// lookup, since others decode then, in a fresh process and in a warm one; lookups at random positions and at
-// rising ones, after 150,000 others; all mappings; and how much the process grows up to the first lookup.
-// Each figure is the best of N processes, 3 unless given. A second table, in wall-clock time, has the parts of
-// opening the smallest map. With --into the first, without that map, is put between the two lines of that file
-// that hold `figures of node.js`. Its time is processor time. Let nothing else run meanwhile.
+// source-map, where NODE_PATH has them, and Node's own module.SourceMap. What isn't there is left out. For
+// maps of three sizes, made by make_map.py, it prints a table: opening with the first lookup, since others
+// decode then, in a fresh process and in a warm one; lookups at random positions and at rising ones, after
+// 150,000 others; all mappings; and how much the process grows up to the first lookup. Each figure is the
+// best of N processes, 3 unless given. A second table, in wall-clock time, has the parts of opening the
+// smallest map. With --into the first, without that map, is put between the two lines of that file that hold
+// `figures of node.js`. Its time is processor time. Let nothing else run meanwhile.
 const fs = require('node:fs');
 const os = require('node:os');
 const path = require('node:path');
-const { execFileSync } = require('node:child_process');
+const {
+  ours, addon, wasm, thoseThere, mapText, numbers, timed, answerOf, shown, measuredWith, option, putInto,
+} = require('./figures.js');
 
-const TOP = path.dirname(__dirname);
-const PACKAGE = path.join(TOP, 'capi', 'node');
 const URL_OF_MAP = 'http://h/m/out.js.map';
 const SIZES = [
   ['10 KB', 550, 4, 1300],
@@ -30,17 +31,6 @@ const WARM = 1000; // and for opening again, within which the collector of each 
 
 // ---- readers: how each opens a map, looks a position up (lines and columns from 0), lists all mappings, and
 // closes a map, where it has a call for that
-
-const ours = name => require(path.join(PACKAGE, name));
-
-// Over WebAssembly, in a process that has loaded nothing of the package.
-function wasm() {
-  fs.accessSync(ours('wasm.js').file);
-  process.env.SMAP_WASM = '1';
-  const library = ours('index.js');
-  delete process.env.SMAP_WASM;
-  return library;
-}
 
 const lookups = ({ SourceMap }) => ({
   open: (text, bytes) => new SourceMap(bytes, URL_OF_MAP),
@@ -67,10 +57,10 @@ function sourceMap({ SourceMapConsumer }) {
 }
 
 const READERS = {
-  '`smap`, `lookup`': () => lookups(ours('index.js')),
-  '`smap`, `lookup`, as WebAssembly': () => lookups(wasm()),
+  '`smap`, `lookup`': () => lookups(addon('index.js')),
+  '`smap`, `lookup`, as WebAssembly': () => lookups(wasm('index.js')),
   '`smap`, `table().find`': () => {
-    const { SourceMap } = ours('index.js');
+    const { SourceMap } = addon('index.js');
     return {
       open: (text, bytes) => new SourceMap(bytes, URL_OF_MAP),
       lookup: (map, line, column) => map.table().find(line, column),
@@ -81,9 +71,9 @@ const READERS = {
       close: map => map.close(),
     };
   },
-  '`smap/trace-mapping`': () => traceMapping(ours('trace-mapping.js')),
+  '`smap/trace-mapping`': () => traceMapping(addon('trace-mapping.js')),
   '`@jridgewell/trace-mapping`': () => traceMapping(require('@jridgewell/trace-mapping')),
-  '`smap/source-map`': () => sourceMap(ours('source-map.js')),
+  '`smap/source-map`': () => sourceMap(addon('source-map.js')),
   '`source-map`': () => sourceMap(require('source-map')),
   "Node's own": () => {
     const { SourceMap } = require('node:module');
@@ -97,14 +87,6 @@ const READERS = {
 
 // ---- one process: a reader and a map
 
-// Of processor time, of all threads.
-const milliseconds = call => {
-  const from = process.cpuUsage();
-  call();
-  const { user, system } = process.cpuUsage(from);
-  return (user + system) / 1000;
-};
-
 // Calls with each of these positions.
 function round(call, positions) {
   for (let i = 0; i < positions.length; i += 2) call(positions[i], positions[i + 1]);
@@ -114,7 +96,7 @@ function round(call, positions) {
 function rate(call, positions) {
   let count = 0, took = 0;
   while (took < BUDGET) {
-    took += milliseconds(() => round(call, positions));
+    took += timed(() => round(call, positions)).took;
     count += positions.length / 2;
   }
   return (count / took) * 1000;
@@ -123,7 +105,7 @@ function rate(call, positions) {
 function best(call, budget, after = () => {}) {
   let least = Infinity;
   for (let took = 0, i = 0; i < 3 || took < budget; i++) {
-    const one = milliseconds(call);
+    const { took: one } = timed(call);
     took += Math.max(one, 0.01);
     least = Math.min(least, one);
     after();
@@ -133,10 +115,10 @@ function best(call, budget, after = () => {}) {
 
 // Positions as line, column, line, column: at random, and in order.
 function positionsOf(lines, columns) {
-  const random = [];
-  for (let i = 0, state = 1; i < 50_000; i++) {
-    state = (Math.imul(state, 1664525) + 1013904223) >>> 0;
-    random.push(state % lines, (state >>> 8) % columns);
+  const next = numbers(), random = [];
+  for (let i = 0; i < 50_000; i++) {
+    const draw = next();
+    random.push(draw % lines, (draw >>> 8) % columns);
   }
   const rising = Array.from({ length: 50_000 }, (_, i) => [Math.floor((i * lines) / 50_000), i % columns]);
   rising.sort((a, b) => a[0] - b[0] || a[1] - b[1]);
@@ -150,7 +132,7 @@ function measure(name, file, lines, columns) {
   const before = process.memoryUsage().rss;
   let map;
   const openFirst = () => lookup((map = open(text, bytes)), lines - 1, 0);
-  const first = milliseconds(openFirst);
+  const { took: first } = timed(openFirst);
   global.gc();
   const memory = (process.memoryUsage().rss - before) / 1e6;
   const [random, rising] = positionsOf(lines, columns);
@@ -198,11 +180,8 @@ function parts(file) {
 // ---- all of them
 
 function makeMap(folder, [name, segments, sources, content]) {
-  const options = { segments, sources, content, names: Math.floor(segments / 10) };
-  const words = Object.entries(options).flatMap(([option, n]) => [`--${option}`, String(n)]);
-  const script = path.join(__dirname, 'make_map.py');
   const file = path.join(folder, `${segments}.map`);
-  fs.writeFileSync(file, execFileSync('python3', ['-B', script, ...words], { maxBuffer: 2 ** 30 }));
+  fs.writeFileSync(file, mapText({ segments, sources, content, names: Math.floor(segments / 10) }));
   const map = new (ours('index.js').SourceMap)(fs.readFileSync(file), URL_OF_MAP);
   const columns = map.table().column.reduce((most, column) => Math.max(most, column), 0) + 1;
   const { lines, mappings } = map.counts;
@@ -210,10 +189,8 @@ function makeMap(folder, [name, segments, sources, content]) {
 }
 
 // One process: what a reader takes for a map.
-function measured(name, { file, lines, columns }) {
-  const words = ['--expose-gc', __filename, '--measure', name, file, lines, columns].map(String);
-  return JSON.parse(execFileSync(process.execPath, words));
-}
+const measured = (name, { file, lines, columns }) =>
+  answerOf(__filename, '--measure', name, file, lines, columns);
 
 // The best of several processes.
 function bestOf(all) {
@@ -223,24 +200,13 @@ function bestOf(all) {
   return Object.entries(picks).map(([key, pick]) => of(key, pick));
 }
 
-const shown = n => (n === null ? '' : n.toPrecision(n >= 100 ? Math.ceil(Math.log10(n + 1)) : 2));
-
-function isThere(name) {
-  try {
-    return Boolean(READERS[name]());
-  } catch (error) {
-    console.error(`left out: ${name} (${error.message.split('\n')[0]})`);
-    return false;
-  }
-}
-
 function table(runs, maps) {
   const lines = [
     '| map | reader | open, first / again (ms) | random lookups (million/s) | rising | all mappings (ms) |' +
       ' memory (MB) |',
     '|---|---|---|---|---|---|---|',
   ];
-  const names = Object.keys(READERS).filter(isThere);
+  const names = thoseThere(READERS);
   for (const map of maps) {
     // In turn, since what else runs on the machine changes.
     const rounds = Array.from({ length: runs }, () => names.map(name => measured(name, map)));
@@ -250,29 +216,18 @@ function table(runs, maps) {
       lines.push(`| ${columns.join(' | ')} |`);
     }
   }
-  const [{ model }, ...more] = os.cpus();
-  const on = `Node ${process.versions.node} on ${more.length + 1} processors (${model})`;
-  lines.push('', `Measured with ${on}, at a load of ${os.loadavg()[0].toFixed(1)} when it was done.`);
+  lines.push('', measuredWith());
   return lines.join('\n');
 }
 
 function tableOfParts(map) {
-  const words = ['--expose-gc', __filename, '--parts', map.file];
-  const all = JSON.parse(execFileSync(process.execPath, words));
+  const all = answerOf(__filename, '--parts', map.file);
   const lines = all.map(([part, took]) => `| ${part} | ${shown(took)} |`);
   return [`| ${map.name}, ${map.count} mappings | µs |`, '|---|---|', ...lines].join('\n');
 }
 
 // A table without the rows of its first map.
 const ofLarger = text => text.replace(/(\|---.*\n)\| .*\n(?:\|  \|.*\n)*/, '$1');
-
-function putInto(file, mark, text) {
-  const lines = fs.readFileSync(file, 'utf8').split('\n');
-  const marks = lines.flatMap((line, i) => (line.includes(mark) ? [i] : []));
-  if (marks.length !== 2) throw new Error(`${file} hasn't two lines with ${mark}`);
-  const kept = [...lines.slice(0, marks[0] + 1), '', text, '', ...lines.slice(marks[1])];
-  fs.writeFileSync(file, kept.join('\n'));
-}
 
 function main(words) {
   if (words[0] === '--measure') {
@@ -283,14 +238,13 @@ function main(words) {
     console.log(JSON.stringify(parts(words[1])));
     return;
   }
-  const option = name => (words.includes(name) ? words[words.indexOf(name) + 1] : null);
   const folder = fs.mkdtempSync(path.join(os.tmpdir(), 'smap-bench-'));
   try {
     const maps = SIZES.map(size => makeMap(folder, size));
     console.log(`${tableOfParts(maps[0])}\n`);
     const text = table(+(option('--runs') ?? 3), maps);
     console.log(text);
-    if (option('--into')) putInto(option('--into'), 'figures of node.js', ofLarger(text));
+    putInto('figures of node.js', ofLarger(text));
   } finally {
     fs.rmSync(folder, { recursive: true });
   }

@@ -22,6 +22,8 @@ complete -c smap-maps -n '__fish_seen_subcommand_from comment' -l remove -d 'Rem
 complete -c smap-maps -n '__fish_seen_subcommand_from extract' -r -F -s o -l output -d 'Write the files of sources into DIR'
 complete -c smap-maps -n '__fish_seen_subcommand_from compose' -l thin -d 'Leave out mappings that change no position\'s original'
 complete -c smap-maps -n '__fish_seen_subcommand_from compose' -l used -d 'Leave out sources that no mapping has'
+complete -c smap-maps -n '__fish_seen_subcommand_from compose' -l beside -d 'A source that names no map has the NAME.map next to it'
+complete -c smap-maps -n '__fish_seen_subcommand_from compose' -x -l map -d 'The source with this URL has the map in FILE, whatever it names'
 complete -c smap-maps -n '__fish_seen_subcommand_from check tidy flatten lint repair compose extract comment inline outline contents rename debug-id diff' -x -l url-bytes -d 'Refuse a map if the URLs of its sources take more than N bytes (default 67108864)'
 complete -c smap-maps -s V -l version -d 'Print the version'
 complete -c smap-maps -s h -l help -d 'Print help'

@@ -24,7 +24,7 @@ smap-maps tidy: --base --absolute --relative --write --drop --diff --json --url-
 smap-maps flatten: --base --write --drop --diff --json --url-bytes --version --help
 smap-maps lint: --format --rule --min-mapped --url-bytes --version --help
 smap-maps repair: --base --write --url-bytes --version --help
-smap-maps compose: --write --drop --diff --json --thin --used --url-bytes --version --help
+smap-maps compose: --write --drop --diff --json --thin --used --beside --map --url-bytes --version --help
 smap-maps extract: --output --url-bytes --version --help
 smap-maps comment: --write --set --remove --url-bytes --version --help
 smap-maps inline: --write --url-bytes --version --help
@@ -55,6 +55,7 @@ smap-maps --min-mapped:
 smap-maps --set:
 smap-maps -o: FILE
 smap-maps --output: FILE
+smap-maps --map:
 smap-maps --url-bytes:
 smap-view --base:
 smap-view --url-bytes:

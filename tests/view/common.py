@@ -5,6 +5,7 @@ import pathlib
 import random
 import re
 import subprocess
+import time
 
 import pages
 
@@ -109,8 +110,18 @@ def places(made, count):
 CLEAR = "document.getElementById('status').textContent = ''"
 
 
+# A link within the page is followed by two navigations, and the page makes one more each 300 ms at most.
+# Chromium ignores those above 200 within 10 s, and says so.
+FOLLOW_SECONDS = 0.15
+next_follow = 0
+
+
 def follow(browser, link):
-    """Follows a link within the page, and waits until it says something."""
+    """Follows a link within the page, no oftener than browsers let a page do, and waits until it says
+    something."""
+    global next_follow
+    time.sleep(max(0, next_follow - time.monotonic()))
+    next_follow = time.monotonic() + FOLLOW_SECONDS
     browser.run(f"{CLEAR}; history.replaceState(null, '', '#'); location.hash = arguments[0]", link)
     return browser.wait("return document.getElementById('status').textContent")
 

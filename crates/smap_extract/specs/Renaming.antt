@@ -6,6 +6,8 @@ use Rattle.smap_record.specs.Written.{Spelling, as_written}
 use Rattle.smap_extract.specs.Spans.{IsSpliced}
 use Rattle.smap_extract.specs.declared.changing.Change.{Change}
 use Rattle.smap_extract.specs.declared.changing.Change.TheVariants as change
+use Rattle.smap_extract.specs.declared.sources_run.SourcesTask.{SourcesTask}
+use Rattle.smap_extract.specs.declared.sources_run.SourcesTask.TheVariants as task
 
 -- a beginning of sources, and what stands for it
 abbrev pub Prefix : Type 0
@@ -34,3 +36,15 @@ prefixes_of c = []
 pub record IsChanged (ps : List Prefix) (old new : List ℕ) : Type 0 where
   pub spliced : IsSpliced old new
   pub sources : as_written new ≡ map (respelled ps) (as_written old)
+
+-- The beginnings that a task gives to sources: none to those that get or lose contents, or in place of one that
+-- all have.
+abbrev pub AreGiven : SourcesTask → List Prefix → Type 0
+AreGiven (task.Add meant) ps = ps ≡ []
+AreGiven (task.Drop meant) ps = ps ≡ []
+AreGiven (task.Rename given) ps = ps ≡ prefixes_in given.items
+AreGiven task.Strip ps = (from : List ℕ) × (ps ≡ (from, []) ∷ [])
+
+-- What a task makes of a map's text.
+abbrev pub IsChangedBy : SourcesTask → List ℕ → List ℕ → Type 0
+IsChangedBy asked old new = (ps : List Prefix) × AreGiven asked ps × IsChanged ps old new

@@ -1,4 +1,8 @@
 //! What becomes of a map of which the sources are changed.
+ghost use Rattle.std.specs.Prelude.{◌≡◌, [], IfOk, IfSome, List};
+ghost use Rattle.smap_record.specs.Written.{as_written};
+ghost use Rattle.smap_extract.specs.Renaming.{IsChanged, IsChangedBy};
+
 use crate::changing::{Change, MapRead, changed};
 use crate::finding::find_contents;
 use crate::patterns::Meant;
@@ -40,7 +44,10 @@ fn with_contents<E: Eprint + AllocGlobal, D: Disk>(
     meant: &Meant<'_>,
     file: &str,
     read: &MapRead<'_>,
-) -> Result<Option<Vec<u8>>, SourcesFault> {
+) -> Result<Option<Vec<u8>>, SourcesFault>
+    ensures { IfOk result (λ o. IfSome o (λ new. read.now.written ≡ as_written read.now.bytes.now
+        → IsChanged [] read.now.bytes.now new.items)) }
+{
     let alloc = host.alloc();
     let found = find_contents(alloc, host.disk, read, meant)?;
     say_missing(host, file, found.missing)?;
@@ -48,7 +55,7 @@ fn with_contents<E: Eprint + AllocGlobal, D: Disk>(
 }
 
 /// The text of the map in a file once that is done to its sources; none if nothing changes. How many sources
-/// have no content still is said.
+/// have no content still is said. `read` has the sources that the text writes.
 ///
 /// # Errors
 ///
@@ -58,7 +65,10 @@ pub fn changed_sources<E: Eprint + AllocGlobal, D: Disk>(
     task: &SourcesTask<'_>,
     file: &str,
     read: &MapRead<'_>,
-) -> Result<Option<Vec<u8>>, SourcesFault> {
+) -> Result<Option<Vec<u8>>, SourcesFault>
+    ensures { IfOk result (λ o. IfSome o (λ new. read.now.written ≡ as_written read.now.bytes.now
+        → IsChangedBy task.now read.now.bytes.now new.items)) }
+{
     let alloc = host.alloc();
     match task {
         SourcesTask::Add(meant) => with_contents(host, meant, file, read),

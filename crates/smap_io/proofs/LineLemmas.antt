@@ -68,7 +68,7 @@ HasNoFeed-append : (front back : List ℕ) → HasNoFeed front → HasNoFeed bac
 HasNoFeed-append front back free clean = grind (arith, list_any-append (λ b. b == 10) front back)
 
 -- with its line feed it is one line
-lines_of-line : (line : List ℕ) → HasNoFeed line → lines_of (line ++ 10 ∷ []) ≡ (line ++ 10 ∷ []) ∷ []
+pub lines_of-line : (line : List ℕ) → HasNoFeed line → lines_of (line ++ 10 ∷ []) ≡ (line ++ 10 ∷ []) ∷ []
 lines_of-line [] h = refl
 lines_of-line (b ∷ bs) h = let p = free_parts b bs h in rw (p.0, lines_of-line bs p.1) refl
 
@@ -77,7 +77,7 @@ on_line : (b : ℕ) (bs : List ℕ) → HasNoFeed bs → onto_first b (lines_of 
 on_line b [] free = refl
 on_line b (c ∷ cs) free = let p = free_parts c cs free in rw (p.0, on_line c cs p.1) refl
 
-lines_of-last : (b : ℕ) (bs : List ℕ) → HasNoFeed (b ∷ bs) → lines_of (b ∷ bs) ≡ (b ∷ bs) ∷ []
+pub lines_of-last : (b : ℕ) (bs : List ℕ) → HasNoFeed (b ∷ bs) → lines_of (b ∷ bs) ≡ (b ∷ bs) ∷ []
 lines_of-last b bs h = let p = free_parts b bs h in rw p.0 (on_line b bs p.1)
 
 -- it isn't complete

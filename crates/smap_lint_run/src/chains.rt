@@ -8,6 +8,16 @@ use std::alloc::{AllocError, Global};
 /// How many levels of maps are followed.
 pub(crate) const DEEPEST: usize = 16;
 
+/// Which maps sources have besides those that they name.
+#[derive(Clone, Copy)]
+pub struct MoreMaps<'a> {
+    /// Whether a source that names none has the `NAME.map` next to it.
+    pub beside: bool,
+    /// The URLs of sources, whole or below that of the folder, with the paths of their maps. What such a source
+    /// names doesn't count.
+    pub given: &'a [(&'a str, &'a str)],
+}
+
 /// The maps that the sources of a map lead to. Those of one source are the same wherever it is listed.
 #[derive(Drop)]
 pub struct Chain {
@@ -96,8 +106,8 @@ fn depth_of(alloc: Global, chain: &Chain) -> Result<Option<usize>, AllocError> {
 }
 
 /// The maps that the sources of a map lead to, each looked at as a script, at every depth. The map is of the
-/// script with this URL, and nothing outside of the folder is opened. A map that is refused, or of another
-/// text, isn't followed: `refusals` say so.
+/// script with this URL, and nothing outside of the folder is opened but maps that are given. A map that is
+/// refused, or of another text, isn't followed: `refusals` say so.
 ///
 /// # Errors
 ///
@@ -108,9 +118,10 @@ pub fn chain_of<D: Disk>(
     home: Home<'_>,
     script: &[u8],
     map: &SourceMap,
+    more: MoreMaps<'_>,
     url_bytes: usize,
 ) -> Result<Chain, AllocError> {
-    let mut search = Search::new(alloc, disk, home, url_bytes);
+    let mut search = Search::new(alloc, disk, home, more, url_bytes);
     search.start(script, map)?;
     search.go_on()?;
     let Search { mut chain, .. } = search;

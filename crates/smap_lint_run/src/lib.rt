@@ -22,7 +22,7 @@ mod source_maps;
 mod visit;
 
 pub use asked::LintAsked;
-pub use chains::{Chain, chain_of};
+pub use chains::{Chain, MoreMaps, chain_of};
 pub use program::lint;
 pub use refusing::{refuse_empty, refuse_path};
 pub use remarks::chain_remarks;

@@ -1,6 +1,6 @@
 //! A search for the maps of sources.
-use crate::chains::{Chain, DEEPEST};
-use crate::source_maps::{Lead, file_text, lead_of, source_text};
+use crate::chains::{Chain, DEEPEST, MoreMaps};
+use crate::source_maps::{Lead, file_text, lead_beside, lead_of, source_text};
 use indexmap::IndexMap;
 use smap_link::{is_data, script_url};
 use smap_lint_rules::{first_past_end, normal_text, same_text};
@@ -10,7 +10,16 @@ use smap_record::{Base, BaseFault, Fault, Limits, ReadError, SourceMap, SourceVi
 use smap_system::{Disk, FileFault, LIMIT, printable, read_file};
 use std::alloc::{AllocError, Global};
 
-/// A source that names a map.
+/// Where the map of a source is.
+#[derive(Drop)]
+enum Way<'a> {
+    /// What the source names leads there.
+    Named(Target),
+    /// In the file with this path, which is given.
+    Given(&'a str),
+}
+
+/// A source that has a map.
 #[derive(Drop)]
 struct Found {
     url: String,
@@ -39,6 +48,7 @@ pub(crate) struct Search<'a, D> {
     alloc: Global,
     disk: &'a D,
     home: Home<'a>,
+    more: MoreMaps<'a>,
     url_bytes: usize,
     pub(crate) chain: Chain,
     /// The URLs of the scripts that the maps are of.
@@ -77,11 +87,18 @@ fn base_of(alloc: Global, url: &[u8]) -> Result<Option<Base>, AllocError> {
 
 impl<'a, D: Disk> Search<'a, D> {
     /// A search that has found nothing yet.
-    pub(crate) fn new(alloc: Global, disk: &'a D, home: Home<'a>, url_bytes: usize) -> Self {
+    pub(crate) fn new(
+        alloc: Global,
+        disk: &'a D,
+        home: Home<'a>,
+        more: MoreMaps<'a>,
+        url_bytes: usize,
+    ) -> Self {
         Search {
             alloc,
             disk,
             home,
+            more,
             url_bytes,
             chain: Chain::new(alloc),
             scripts: Vec::new(alloc),
@@ -115,21 +132,65 @@ impl<'a, D: Disk> Search<'a, D> {
         })
     }
 
-    /// What a source of the map of a script names for its own, if it names a map.
+    /// The path of the map that is given for the source with this URL, if one is.
+    fn given(&self, url: &str) -> Option<&'a str> {
+        let own = own_part(self.home, url);
+        for (source, path) in self.more.given {
+            if *source == url || *source == own {
+                return Some(*path);
+            }
+        }
+        None
+    }
+
+    /// A source of the map of a script, for which the map with this path is given.
+    fn given_found(
+        &self,
+        script: &[u8],
+        source: SourceView<'_>,
+        path: &str,
+    ) -> Result<Found, AllocError> {
+        let (alloc, url) = (self.alloc, source.url.unwrap_or(""));
+        let widths = match source_text(alloc, self.disk, self.home, script, source)? {
+            Some(text) => script_widths(alloc, text.bytes())?,
+            None => None,
+        };
+        Ok(Found {
+            url: String::from_str(alloc, url)?,
+            shown: printable(alloc, own_part(self.home, url).as_bytes())?,
+            named: printable(alloc, path.as_bytes())?,
+            widths,
+            is_stale: false,
+        })
+    }
+
+    /// What the source with this URL and this text names for its own, or has next to it, if that counts.
+    fn lead(&self, url: &str, text: &[u8]) -> Result<Option<Lead>, AllocError> {
+        let (alloc, disk, home) = (self.alloc, self.disk, self.home);
+        match lead_of(alloc, disk, home, url, text)? {
+            None if self.more.beside => lead_beside(alloc, disk, home, url),
+            lead => Ok(lead),
+        }
+    }
+
+    /// Where the map of a source of the map of a script is, if it has one.
     fn find(
         &self,
         script: &[u8],
         source: SourceView<'_>,
-    ) -> Result<Option<(Found, Target)>, AllocError> {
-        let (alloc, disk, home) = (self.alloc, self.disk, self.home);
-        let Some(text) = source_text(alloc, disk, home, script, source)? else {
+    ) -> Result<Option<(Found, Way<'a>)>, AllocError> {
+        let url = source.url.unwrap_or("");
+        if let Some(path) = self.given(url) {
+            let found = self.given_found(script, source, path)?;
+            return Ok(Some((found, Way::Given(path))));
+        }
+        let Some(text) = source_text(self.alloc, self.disk, self.home, script, source)? else {
             return Ok(None);
         };
-        let url = source.url.unwrap_or("");
-        match lead_of(alloc, disk, home, url, text.bytes())? {
+        match self.lead(url, text.bytes())? {
             Some(lead) => {
                 let found = self.found(source, text.bytes(), &lead)?;
-                Ok(Some((found, lead.target)))
+                Ok(Some((found, Way::Named(lead.target))))
             }
             None => Ok(None),
         }
@@ -225,24 +286,37 @@ impl<'a, D: Disk> Search<'a, D> {
         self.fitting(found, number)
     }
 
-    /// What a file of the folder holds; none if it can't be read, as is said.
-    fn bytes_of(&mut self, name: &str) -> Result<Option<Vec<u8>>, AllocError> {
-        let folder = self.home.path;
-        let path = format!(in self.alloc; "{folder}{name}")?;
-        match read_file(self.alloc, self.disk, path.as_str(), LIMIT) {
+    /// What a file holds, which is called so in sentences; none if it can't be read, as is said.
+    fn bytes_at(&mut self, path: &str, shown: &str) -> Result<Option<Vec<u8>>, AllocError> {
+        match read_file(self.alloc, self.disk, path, LIMIT) {
             Ok(bytes) => Ok(Some(bytes)),
             Err(FileFault::Memory) => Err(AllocError),
             Err(_) => {
-                let refusal = format!(in self.alloc; "{name}: cannot be read")?;
+                let refusal = format!(in self.alloc; "{shown}: cannot be read")?;
                 self.chain.refuse(refusal)?;
                 Ok(None)
             }
         }
     }
 
+    /// The index of the map of a source in the file with this path, which is given.
+    fn given_map(&mut self, found: &Found, path: &str) -> Result<Option<usize>, AllocError> {
+        let (url, shown) = (found.url.as_str(), found.named.as_str());
+        let Some(bytes) = self.bytes_at(path, shown)? else {
+            return Ok(None);
+        };
+        let Some(map) = self.read_at(&bytes, url.as_bytes(), shown, true)? else {
+            return Ok(None);
+        };
+        let number = self.add(url, map)?;
+        self.fitting(found, number)
+    }
+
     /// Reads the map of the script with this URL in the file of the folder with this name.
     fn new_file(&mut self, url: &str, name: &str) -> Result<Option<usize>, AllocError> {
-        let Some(bytes) = self.bytes_of(name)? else {
+        let folder = self.home.path;
+        let path = format!(in self.alloc; "{folder}{name}")?;
+        let Some(bytes) = self.bytes_at(path.as_str(), name)? else {
             return Ok(None);
         };
         let own = script_url(self.alloc, self.home.url, name.as_bytes())?;
@@ -288,13 +362,14 @@ impl<'a, D: Disk> Search<'a, D> {
         Ok(None)
     }
 
-    /// The index of the map that a source names, if it can be followed; else it is said why not.
-    fn follow(&mut self, found: &Found, target: Target) -> Result<Option<usize>, AllocError> {
-        match target {
-            Target::Inline(bytes) => self.own_map(found, &bytes),
-            Target::File(name) => self.file_map(found, name.as_str()),
-            Target::Absent(..) => self.miss(found, "isn't there"),
-            Target::Wrong(_) => self.miss(found, "is no map of the folder"),
+    /// The index of the map of a source, if it can be followed; else it is said why not.
+    fn follow(&mut self, found: &Found, way: Way<'_>) -> Result<Option<usize>, AllocError> {
+        match way {
+            Way::Given(path) => self.given_map(found, path),
+            Way::Named(Target::Inline(bytes)) => self.own_map(found, &bytes),
+            Way::Named(Target::File(name)) => self.file_map(found, name.as_str()),
+            Way::Named(Target::Absent(..)) => self.miss(found, "isn't there"),
+            Way::Named(Target::Wrong(_)) => self.miss(found, "is no map of the folder"),
         }
     }
 
@@ -313,10 +388,10 @@ impl<'a, D: Disk> Search<'a, D> {
         script: &[u8],
         source: SourceView<'_>,
     ) -> Result<Option<usize>, AllocError> {
-        let Some((found, target)) = self.find(script, source)? else {
+        let Some((found, way)) = self.find(script, source)? else {
             return Ok(None);
         };
-        let number = self.follow(&found, target)?;
+        let number = self.follow(&found, way)?;
         if number.is_some() {
             self.note(&found)?;
         }
@@ -342,8 +417,8 @@ impl<'a, D: Disk> Search<'a, D> {
         }
     }
 
-    /// What the i-th source of the k-th map names for its own.
-    fn find_at(&self, k: usize, i: usize) -> Result<Option<(Found, Target)>, AllocError> {
+    /// Where the map of the i-th source of the k-th map is.
+    fn find_at(&self, k: usize, i: usize) -> Result<Option<(Found, Way<'a>)>, AllocError> {
         let (Some(map), Some(script)) = (self.chain.maps.get(k), self.scripts.get(k)) else {
             return Ok(None);
         };
@@ -356,7 +431,7 @@ impl<'a, D: Disk> Search<'a, D> {
     /// The index of the map of the i-th source of the k-th map.
     fn number_at(&mut self, k: usize, i: usize) -> Result<Option<usize>, AllocError> {
         match self.find_at(k, i)? {
-            Some((found, target)) => self.follow(&found, target),
+            Some((found, way)) => self.follow(&found, way),
             None => Ok(None),
         }
     }

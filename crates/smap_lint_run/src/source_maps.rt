@@ -4,7 +4,7 @@ ghost use Rattle.smap_lint_run.specs.SourceMaps.{IsLead, IsSourceTarget};
 
 use crate::folder::has_no_size;
 use smap_link::{bare, is_data, link_in, script_name};
-use smap_map_choice::NamedFault;
+use smap_map_choice::{NamedFault, map_beside};
 use smap_map_files::{Home, Target, is_within, target_of};
 use smap_record::SourceView;
 use smap_system::{Disk, FileFault, Kind, LIMIT, read_file};
@@ -75,6 +75,20 @@ pub(crate) fn lead_of<D: Disk>(
     Ok(Some(Lead { named, target }))
 }
 
+/// The path of what has this name in a folder, if it is a file of that.
+fn path_of<D: Disk>(
+    alloc: Global,
+    disk: &D,
+    folder: &str,
+    name: &str,
+) -> Result<Option<String>, AllocError> {
+    let path = format!(in alloc; "{folder}{name}")?;
+    if disk.kind(path.as_str()) == Kind::File && is_within(alloc, disk, folder, path.as_str())? {
+        return Ok(Some(path));
+    }
+    Ok(None)
+}
+
 /// The path of the source with this URL, if it is a file of the folder.
 fn path_in<D: Disk>(
     alloc: Global,
@@ -85,15 +99,36 @@ fn path_in<D: Disk>(
     let Some(name) = script_name(alloc, home.url, bare(url.as_bytes()))? else {
         return Ok(None);
     };
-    let Ok(name) = String::from_utf8(name) else {
+    match String::from_utf8(name) {
+        Ok(name) => path_of(alloc, disk, home.path, name.as_str()),
+        Err(_) => Ok(None),
+    }
+}
+
+/// The map next to the source with this URL, as if that named it, if it is a file of the folder.
+///
+/// # Errors
+///
+/// Out of memory alone.
+pub(crate) fn lead_beside<D: Disk>(
+    alloc: Global,
+    disk: &D,
+    home: Home<'_>,
+    url: &str,
+) -> Result<Option<Lead>, AllocError> {
+    let Some(name) = script_name(alloc, home.url, bare(url.as_bytes()))? else {
         return Ok(None);
     };
-    let (folder, name) = (home.path, name.as_str());
-    let path = format!(in alloc; "{folder}{name}")?;
-    if disk.kind(path.as_str()) == Kind::File && is_within(alloc, disk, folder, path.as_str())? {
-        return Ok(Some(path));
+    let named = map_beside(alloc, &name)?;
+    let Ok(file) = std::str::from_utf8(&named) else {
+        return Ok(None);
+    };
+    let file = String::from_str(alloc, file)?;
+    if path_of(alloc, disk, home.path, file.as_str())?.is_none() {
+        return Ok(None);
     }
-    Ok(None)
+    let target = Target::File(file);
+    Ok(Some(Lead { named, target }))
 }
 
 /// What the file of the source with this URL holds, if it is one of the folder and can be read.

@@ -22,7 +22,7 @@ use crate::{Failure, Outcome, Verdict, unread};
 use smap_canon::canonical_in;
 use smap_command_line::maps::{MapsWords, Rewrite};
 use smap_compose::{ComposeError, compose_deep, only_used, thin};
-use smap_lint_run::{Chain, chain_of, chain_remarks};
+use smap_lint_run::{Chain, MoreMaps, chain_of, chain_remarks};
 use smap_map_files::MapText;
 use smap_record::{Base, Limits, SourceMap};
 use smap_system::{Disk, Host, Stop, Watched};
@@ -31,8 +31,9 @@ use std::io::Write;
 
 /// What is asked of a run.
 #[derive(Clone, Copy)]
-struct Job {
+struct Job<'a> {
     rewrite: Rewrite,
+    more: MoreMaps<'a>,
     /// Whether mappings are left out that change no position's original.
     thin: bool,
     /// Whether sources are left out that no mapping has.
@@ -74,7 +75,7 @@ fn finished_text(
     alloc: Global,
     base: &Base,
     map: SourceMap,
-    job: Job,
+    job: Job<'_>,
 ) -> Result<Vec<u8>, AllocError>
     ensures { IfOk result (λ text. text.items ≡ canonical_text_in (form_asked true) base.now
         (spec.finished job.thin job.used (record_of map))) }
@@ -113,7 +114,7 @@ fn composed_text(
     map: &SourceMap,
     chain: &Chain,
     below: usize,
-    job: Job,
+    job: Job<'_>,
 ) -> Result<Option<Vec<u8>>, AllocError>
     ensures { IfOk result (λ o. IfSome o (λ text. (maps : Maps)
         × (text.items ≡ canonical_text_in (form_asked true) base.now
@@ -169,7 +170,7 @@ fn followed_outcome<D: Disk>(
     map: &SourceMap,
     chain: &Chain,
     below: usize,
-    job: Job,
+    job: Job<'_>,
 ) -> Result<Option<Outcome>, AllocError>
     requires file { IsFileOf (D.held case.now.disk.now) (string_bytes case.now.target.now.file)
         case.now.target.now.url.items file.now }
@@ -196,7 +197,11 @@ fn alone(alloc: Global, verdict: Verdict) -> Composed {
 }
 
 /// The maps that its sources lead to.
-fn chain_for<D: Disk>(case: &Case<'_, D>, map: &SourceMap, job: Job) -> Result<Chain, AllocError> {
+fn chain_for<D: Disk>(
+    case: &Case<'_, D>,
+    map: &SourceMap,
+    job: Job<'_>,
+) -> Result<Chain, AllocError> {
     let target = case.target;
     let script = target.script().as_bytes();
     chain_of(
@@ -205,6 +210,7 @@ fn chain_for<D: Disk>(case: &Case<'_, D>, map: &SourceMap, job: Job) -> Result<C
         target.home(),
         script,
         map,
+        job.more,
         job.url_bytes,
     )
 }
@@ -214,7 +220,7 @@ fn with_chain<D: Disk>(
     case: &Case<'_, D>,
     file: &MapFile,
     map: &SourceMap,
-    job: Job,
+    job: Job<'_>,
 ) -> Result<Composed, AllocError>
     requires file { IsFileOf (D.held case.now.disk.now) (string_bytes case.now.target.now.file)
         case.now.target.now.url.items file.now }
@@ -237,7 +243,7 @@ fn with_chain<D: Disk>(
 }
 
 /// What becomes of a map that is looked at.
-fn looked_at<D: Disk>(case: &Case<'_, D>, job: Job) -> Composed {
+fn looked_at<D: Disk>(case: &Case<'_, D>, job: Job<'_>) -> Composed {
     let alloc = case.alloc;
     let file = match case.file() {
         Ok(file) => file,
@@ -265,7 +271,7 @@ fn looked_at<D: Disk>(case: &Case<'_, D>, job: Job) -> Composed {
 /// Composes a map, and says what became of it. Answers the status of that.
 fn compose_map<E: Eprint + AllocGlobal, D: Disk, W: Write>(
     host: &Host<'_, E, D>,
-    job: Job,
+    job: Job<'_>,
     target: &Target,
     writer: &mut Watched<W>,
 ) -> Result<u8, Stop> {
@@ -293,6 +299,18 @@ fn compose_map<E: Eprint + AllocGlobal, D: Disk, W: Write>(
     Ok(outcome.verdict.status().max(least))
 }
 
+/// The values of `--map`: a URL, which may hold `=`, and a path.
+fn maps_given<'a>(
+    alloc: Global,
+    asked: &MapsWords<'a>,
+) -> Result<Vec<(&'a str, &'a str)>, AllocError> {
+    let mut given = Vec::new(alloc);
+    for word in &asked.options.texts(alloc, "map")? {
+        given.push(word.rsplit_once('=').unwrap_or((*word, "")))?;
+    }
+    Ok(given)
+}
+
 /// Composes the maps that the paths name, each with those of its sources. Answers the status of a run that
 /// came to its end: the greatest of all maps'.
 pub(crate) fn compose<E: Eprint + AllocGlobal, D: Disk, W: Write>(
@@ -301,8 +319,13 @@ pub(crate) fn compose<E: Eprint + AllocGlobal, D: Disk, W: Write>(
     writer: &mut Watched<W>,
 ) -> Result<u8, Stop> {
     let targets = targets_of(host, None, &asked.paths)?;
+    let given = maps_given(host.alloc(), asked)?;
     let job = Job {
         rewrite: asked.rewrite(),
+        more: MoreMaps {
+            beside: asked.options.has("beside"),
+            given: &given,
+        },
         thin: asked.options.has("thin"),
         used: asked.options.has("used"),
         url_bytes: asked.options.url_bytes(),

@@ -85,7 +85,7 @@ kept_pieces (p ∷ ps) h =
     kept_piece : (p : Piece) → is_replaced p ≡ false → written_for p ≡ bytes_of p
     kept_piece p h = grind arith
 
-line_parts : (line : List ℕ) → without_line_feed line ++ feed_of line ≡ line
+pub line_parts : (line : List ℕ) → without_line_feed line ++ feed_of line ≡ line
 line_parts line =
     grind (arith, append-nil line, (ends_is Decides-eqb line (10 ∷ []) (has_line_feed line) refl).0)
 

@@ -239,7 +239,7 @@ stays_firefox f class word url line column is_a is_class x =
     }
 
 -- What begins as those of V8, and has no space behind its first part, does so with any other behind it.
-begins_alike : (p q z : List ℕ) → BeginsWithAt (p ++ q) → lacks 32 q ≡ true → BeginsWithAt (p ++ z)
+pub begins_alike : (p q z : List ℕ) → BeginsWithAt (p ++ q) → lacks 32 q ≡ true → BeginsWithAt (p ++ z)
 begins_alike p q z b free = elim (cases_lt (length p) (length (b.spaces ++ codes "at "))) [
   | inl lt ↦
       let lead = b.spaces ++ codes "at" in
@@ -306,7 +306,7 @@ alike name class word is is_class =
       no_space = by.no_space;
     }
 
-end_lacks : (text : List ℕ) → IsLineEnd text → lacks 32 text ≡ true
+pub end_lacks : (text : List ℕ) → IsLineEnd text → lacks 32 text ≡ true
 end_lacks text (inl e) = rw e refl
 end_lacks text (inr e) = rw e refl
 

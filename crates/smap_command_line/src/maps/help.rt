@@ -61,6 +61,8 @@ Works on source maps: files, and each *.map in folders and below them; some comm
                   Write the files of sources into DIR (extract)
   --thin          Leave out mappings that change no position's original (compose)
   --used          Leave out sources that no mapping has (compose)
+  --beside        A source that names no map has the NAME.map next to it (compose)
+  --map URL=FILE  The source with this URL has the map in FILE, whatever it names (compose)
   --url-bytes N   Refuse a map if the URLs of its sources take more than N bytes (default 67108864)
   -V, --version   Print the version
   -h, --help      Print help

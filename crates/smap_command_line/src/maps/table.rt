@@ -4,7 +4,7 @@ use crate::rows::{
 };
 
 /// The options, in the order in which the help lists them and they are looked at.
-pub const OPTIONS: [OptionRow; 21] = [
+pub const OPTIONS: [OptionRow; 23] = [
     OptionOf {
         name: "base",
         value: Value::Text,
@@ -255,6 +255,29 @@ pub const OPTIONS: [OptionRow; 21] = [
             ..NO_COMMANDS
         },
         help: "Leave out sources that no mapping has",
+        ..FLAG
+    },
+    OptionOf {
+        name: "beside",
+        commands: Commands {
+            compose: true,
+            ..NO_COMMANDS
+        },
+        help: "A source that names no map has the NAME.map next to it",
+        ..FLAG
+    },
+    OptionOf {
+        name: "map",
+        value: Value::Pair,
+        value_name: "URL=FILE",
+        expected: "URL=FILE",
+        repeats: true,
+        commands: Commands {
+            compose: true,
+            ..NO_COMMANDS
+        },
+        help: "The source with this URL has the map in FILE, whatever it names",
+        details: "URL is whole, or what stands behind that of the folder. It is the base of that map's sources.",
         ..FLAG
     },
     OptionOf {
