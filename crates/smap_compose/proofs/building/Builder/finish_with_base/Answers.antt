@@ -11,6 +11,7 @@ of_file-requires c =
 
 pub returns-clause-fits : goal.returns-clause-fits
 returns-clause-fits c =
+    let arranged = c.in_ok-tokens.ensures.arranged in
     let encodable = c.in_ok-tokens.ensures.encodable c.self.invariant.placed in
-    let fits = finished (made_of c.self.inside) c.self.invariant (rw c.in_ok-tokens.ensures.arranged at encodable)
-    in rw (← c.self.view_is) fits
+    let fits = finished (made_of c.self.inside) c.self.invariant (rw arranged at encodable) in
+    rw (← c.self.view_is) fits
