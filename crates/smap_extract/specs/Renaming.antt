@@ -37,8 +37,8 @@ pub record IsChanged (ps : List Prefix) (old new : List ℕ) : Type 0 where
   pub spliced : IsSpliced old new
   pub sources : as_written new ≡ map (respelled ps) (as_written old)
 
--- The beginnings that a task gives to sources: none to those that get or lose contents, or in place of one that
--- all have.
+-- The beginnings that a task gives to sources: none to those that get or lose contents, or in place of one
+-- that all have.
 abbrev pub AreGiven : SourcesTask → List Prefix → Type 0
 AreGiven (task.Add meant) ps = ps ≡ []
 AreGiven (task.Drop meant) ps = ps ≡ []

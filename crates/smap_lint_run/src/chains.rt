@@ -13,8 +13,8 @@ pub(crate) const DEEPEST: usize = 16;
 pub struct MoreMaps<'a> {
     /// Whether a source that names none has the `NAME.map` next to it.
     pub beside: bool,
-    /// The URLs of sources, whole or below that of the folder, with the paths of their maps. What such a source
-    /// names doesn't count.
+    /// The URLs of sources, whole or below that of the folder, with the paths of their maps. What such a
+    /// source names doesn't count.
     pub given: &'a [(&'a str, &'a str)],
 }
 

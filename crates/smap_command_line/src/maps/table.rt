@@ -277,7 +277,8 @@ pub const OPTIONS: [OptionRow; 23] = [
             ..NO_COMMANDS
         },
         help: "The source with this URL has the map in FILE, whatever it names",
-        details: "URL is whole, or what stands behind that of the folder. It is the base of that map's sources.",
+        details: "URL is whole, or what stands behind that of the folder. It is the base of that map's \
+                  sources.",
         ..FLAG
     },
     OptionOf {
