@@ -16,7 +16,15 @@ function below(n, name, bound) {
   throw new SmapError('SMAP_RANGE', `${name} ${n}: number out of range`);
 }
 
-const word = (n, i) => (n === NONE || isWhole(n, MOST) ? n : counted(n, `numbers[${i}]`));
+// The numbers of an array. Uint32Array.from would take several times as long.
+function listed(numbers) {
+  const words = new Uint32Array(numbers.length);
+  for (let i = 0; i < words.length; i++) {
+    const n = numbers[i];
+    words[i] = n === NONE || isWhole(n, MOST) ? n : counted(n, `numbers[${i}]`);
+  }
+  return words;
+}
 
 class Builder {
   #handle;
@@ -66,7 +74,7 @@ class Builder {
   }
 
   addAll(numbers) {
-    const given = Array.isArray(numbers) ? Uint32Array.from(numbers, word) : numbers;
+    const given = Array.isArray(numbers) ? listed(numbers) : numbers;
     const words = wordsOf(given, 'a Uint32Array or an array');
     this.#handOver();
     this.#put(words);

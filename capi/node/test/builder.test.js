@@ -175,15 +175,15 @@ test('what is no URL, text, limit or list of numbers is a TypeError', () => {
     const calls = [() => new Builder(bad), () => builder.setFile(bad), () => builder.source(bad),
       () => builder.name(bad), () => builder.addAll(bad)];
     for (const call of calls) assert.throws(call, TypeError, String(call));
-    if (bad === undefined) continue;
-    assert.throws(() => builder.source('c.ts', { content: bad }), TypeError);
-    assert.throws(() => new Builder(BASE, { items: bad }), TypeError);
+    if (bad !== undefined) assert.throws(() => builder.source('c.ts', { content: bad }), TypeError);
   }
   for (const bad of [null, '0', [0], new Uint32Array(5), new Int32Array(6), { length: 6 }]) {
     assert.throws(() => builder.addAll(bad), TypeError);
   }
-  for (const bad of [-1, 0.5, NaN, null, 2 ** 32]) {
-    assert.throws(() => new Builder(BASE, { lines: bad }), TypeError);
+  for (const bad of [-1, 0.5, NaN, null, 2 ** 32, '1', true]) {
+    for (const limits of [{ items: bad }, { lines: bad }]) {
+      assert.throws(() => new Builder(BASE, limits), TypeError);
+    }
   }
   assert.throws(() => builder.name(null), TypeError);
   assert.throws(() => new Builder(null), TypeError);
