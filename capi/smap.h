@@ -9,8 +9,8 @@
  *         smap_close(&map);
  *     }
  *
- * HANDLES. smap_map, smap_bytes and smap_scripts are structs that belong to the caller, and are all zero
- * while they are closed (`= {0}` in C, `= {}` in C++).
+ * HANDLES. smap_map, smap_builder, smap_bytes and smap_scripts are structs that belong to the caller, and are
+ * all zero while they are closed (`= {0}` in C, `= {}` in C++).
  * An open handle owns what it holds until it is closed; a call that puts something into it frees what it
  * held. A handle may be moved (by memcpy or assignment) if only one of the copies is used from then on.
  * Nothing but the functions below may write into one.
@@ -82,8 +82,8 @@ enum {
     SMAP_RANGE = 7,      /* the number isn't below the count, or no mapping has such numbers */
     SMAP_URL_BYTES = 8,  /* the URLs of a map's sources take more bytes than they may */
     SMAP_NOT_BASE64 = 9, /* a data: URL says that it is base64, and isn't */
-    SMAP_NOT_UTF8 = 10,  /* a path or a URL isn't UTF-8 */
-    SMAP_TOO_MANY = 11   /* a composition has more sources or names than the limits allow */
+    SMAP_NOT_UTF8 = 10,  /* a path, a URL or a text for a builder isn't UTF-8 */
+    SMAP_TOO_MANY = 11   /* a map that is made has more sources or names than the limits allow */
 };
 
 /* Copies the name of a code into `out`, such as "out of memory", and returns its length, or 0 if the number
@@ -300,6 +300,66 @@ uint32_t smap_thin(smap_map *map, smap_map *out);
 
 /* Makes a map without the sources that no mapping has. OK, CLOSED, MEMORY. */
 uint32_t smap_only_used(smap_map *map, smap_map *out);
+
+/* ---- maps that are built
+ *
+ *     smap_builder builder = {0};
+ *     uint32_t source;
+ *     smap_builder_open(&builder, base, base_len, NULL);
+ *     smap_builder_source(&builder, true, "a.ts", 4, &source);
+ *     const uint32_t mapping[6] = {0, 7, source, 10, 2, UINT32_MAX};
+ *     smap_builder_add(&builder, mapping, 1, NULL);
+ *     smap_builder_finish(&builder, &map);
+ *
+ * Of a call's codes the first counts that its comment has. For a text that is said to be missing, as with
+ * `has_file` false, NULL and 0 are passed. */
+
+/* A map that is being built. Its fields are for the library alone. */
+typedef struct smap_builder {
+    bool is_open;
+    void *at;
+} smap_builder;
+
+/* Opens a builder that has nothing yet, of a map whose URL is `base`. NULL for `limits` means the usual ones.
+ * OK; NOT_URL: the base is no absolute URL; LIMITS: a limit is too large, whatever the base is; MEMORY. */
+SMAP_INLINE uint32_t smap_builder_open(smap_builder *builder, const char *base, size_t base_len,
+                                       const smap_limits *limits);
+
+/* Gives the generated file this name, or none, which it has at first. OK, NOT_UTF8, CLOSED, MEMORY. */
+SMAP_INLINE uint32_t smap_builder_file(smap_builder *builder, bool has_file, const char *file, size_t len);
+
+/* OK: *number is that of the source with this URL, which may be relative to the base, or of the source
+ * without a URL. The first such call lists the source, after the others, without content and not ignored;
+ * later ones give the same number. `number` may be NULL. NOT_UTF8; CLOSED; NOT_URL: the base and `url` make
+ * no URL; TOO_MANY: it would be listed, and there are limits->items sources; MEMORY. */
+SMAP_INLINE uint32_t smap_builder_source(smap_builder *builder, bool has_url, const char *url, size_t len,
+                                         uint32_t *number);
+
+/* Gives a source this content, or none. OK; NOT_UTF8; CLOSED; RANGE: no source has that number; MEMORY. */
+SMAP_INLINE uint32_t smap_builder_content(smap_builder *builder, uint32_t source, bool has_content,
+                                          const char *content, size_t len);
+
+/* Says whether a source is ignored. OK; CLOSED; RANGE: no source has that number. */
+uint32_t smap_builder_ignore(smap_builder *builder, uint32_t source, bool is_ignored);
+
+/* OK: *number is that of a name, which the first such call lists. `number` may be NULL. NOT_UTF8; CLOSED;
+ * TOO_MANY: it would be listed, and there are limits->items names; MEMORY. */
+SMAP_INLINE uint32_t smap_builder_name(smap_builder *builder, const char *name, size_t len, uint32_t *number);
+
+/* Adds mappings, in any order. Each has six numbers, as those of smap_spell. OK; CLOSED; RANGE: one of them
+ * isn't as smap_spell wants it, or its generated line isn't below limits->lines, or no source or no name has
+ * its number. Then none is added, and *wrong is the index of the first such mapping (`wrong` may be NULL).
+ * MEMORY: some of the first ones may be added. */
+SMAP_INLINE uint32_t smap_builder_add(smap_builder *builder, const uint32_t *numbers, size_t mappings,
+                                      size_t *wrong);
+
+/* Closes the builder, and opens `out` on its map, with its base. The mappings are sorted by generated line
+ * and column; those at one position are in the order in which they were added. No text writes that map: its
+ * sources as written are their URLs, without `sourceRoot`. OK; CLOSED; MEMORY, and the builder is closed. */
+uint32_t smap_builder_finish(smap_builder *builder, smap_map *out);
+
+/* Closes a handle. A closed handle stays closed. */
+void smap_builder_close(smap_builder *builder);
 
 /* ---- bytes that are written */
 
@@ -527,6 +587,34 @@ static inline uint32_t smap_open_within_text(smap_map *map, const char *text, co
                             fault);
 }
 
+static inline uint32_t smap_builder_open_text(smap_builder *builder, const char *base,
+                                              const smap_limits *limits)
+{
+    return smap_builder_open(builder, base, smap_length_(base), limits);
+}
+
+static inline uint32_t smap_builder_file_text(smap_builder *builder, bool has_file, const char *file)
+{
+    return smap_builder_file(builder, has_file, file, smap_length_(file));
+}
+
+static inline uint32_t smap_builder_source_text(smap_builder *builder, bool has_url, const char *url,
+                                                uint32_t *number)
+{
+    return smap_builder_source(builder, has_url, url, smap_length_(url), number);
+}
+
+static inline uint32_t smap_builder_content_text(smap_builder *builder, uint32_t source, bool has_content,
+                                                 const char *content)
+{
+    return smap_builder_content(builder, source, has_content, content, smap_length_(content));
+}
+
+static inline uint32_t smap_builder_name_text(smap_builder *builder, const char *name, uint32_t *number)
+{
+    return smap_builder_name(builder, name, smap_length_(name), number);
+}
+
 static inline uint32_t smap_respell_text(const char *text, smap_bytes *out, smap_fault *fault)
 {
     return smap_respell(text, smap_length_(text), out, fault);
@@ -643,6 +731,16 @@ uint32_t smap_written_root_strict(smap_map *map, size_t i, char *out, size_t roo
 uint32_t smap_listed_name_strict(smap_map *map, size_t i, char *out, size_t room, size_t *len);
 uint32_t smap_compose_strict(smap_map *outer, smap_map *inner, size_t inner_count, const size_t *leads,
                              size_t leads_count, const smap_limits *limits, smap_map *out);
+uint32_t smap_builder_open_strict(smap_builder *builder, const char *base, size_t base_len,
+                                  const smap_limits *limits);
+uint32_t smap_builder_file_strict(smap_builder *builder, bool has_file, const char *file, size_t len);
+uint32_t smap_builder_source_strict(smap_builder *builder, bool has_url, const char *url, size_t len,
+                                    uint32_t *number);
+uint32_t smap_builder_content_strict(smap_builder *builder, uint32_t source, bool has_content,
+                                     const char *content, size_t len);
+uint32_t smap_builder_name_strict(smap_builder *builder, const char *name, size_t len, uint32_t *number);
+uint32_t smap_builder_add_strict(smap_builder *builder, const uint32_t *numbers, size_t mappings,
+                                 size_t *wrong);
 size_t smap_bytes_copy_strict(smap_bytes *bytes, size_t from, void *out, size_t room);
 uint32_t smap_respell_strict(const char *text, size_t len, smap_bytes *out, smap_fault *fault);
 uint32_t smap_spell_strict(const uint32_t *numbers, size_t mappings, smap_bytes *out, size_t *wrong);
@@ -768,6 +866,52 @@ static inline uint32_t smap_compose(smap_map *outer, smap_map *inner, size_t inn
     const smap_limits no_limits = {0, 0};
     return smap_compose_strict(outer, inner ? inner : &no_inner, inner_count, leads ? leads : &no_leads,
                                leads_count, limits ? limits : &no_limits, out);
+}
+
+static inline uint32_t smap_builder_open(smap_builder *builder, const char *base, size_t base_len,
+                                         const smap_limits *limits)
+{
+    const smap_limits no_limits = {0, 0};
+    return smap_builder_open_strict(builder, base ? base : smap_no_text_, base_len,
+                                    limits ? limits : &no_limits);
+}
+
+static inline uint32_t smap_builder_file(smap_builder *builder, bool has_file, const char *file,
+                                         size_t len)
+{
+    return smap_builder_file_strict(builder, has_file, file ? file : smap_no_text_, len);
+}
+
+static inline uint32_t smap_builder_source(smap_builder *builder, bool has_url, const char *url,
+                                           size_t len, uint32_t *number)
+{
+    uint32_t no_number;
+    return smap_builder_source_strict(builder, has_url, url ? url : smap_no_text_, len,
+                                      number ? number : &no_number);
+}
+
+static inline uint32_t smap_builder_content(smap_builder *builder, uint32_t source, bool has_content,
+                                            const char *content, size_t len)
+{
+    return smap_builder_content_strict(builder, source, has_content, content ? content : smap_no_text_,
+                                       len);
+}
+
+static inline uint32_t smap_builder_name(smap_builder *builder, const char *name, size_t len,
+                                         uint32_t *number)
+{
+    uint32_t no_number;
+    return smap_builder_name_strict(builder, name ? name : smap_no_text_, len,
+                                    number ? number : &no_number);
+}
+
+static inline uint32_t smap_builder_add(smap_builder *builder, const uint32_t *numbers, size_t mappings,
+                                        size_t *wrong)
+{
+    const uint32_t no_numbers = {0};
+    size_t no_wrong;
+    return smap_builder_add_strict(builder, numbers ? numbers : &no_numbers, mappings,
+                                   wrong ? wrong : &no_wrong);
 }
 
 static inline size_t smap_bytes_copy(smap_bytes *bytes, size_t from, void *out, size_t room)

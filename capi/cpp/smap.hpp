@@ -35,6 +35,7 @@ private:
 typedef Owner<smap_map, smap_close> Map;
 typedef Owner<smap_bytes, smap_bytes_free> Bytes;
 typedef Owner<smap_scripts, smap_close_scripts> Scripts;
+typedef Owner<smap_builder, smap_builder_close> Builder;
 
 /* The name of a code. */
 inline std::string code_name(uint32_t code)
@@ -254,6 +255,50 @@ inline uint32_t compose(Map &outer, std::vector<Map> &inner, const std::vector<s
                                  limits, out.handle());
     for (size_t i = 0; i < inner.size(); i++) *inner[i].handle() = handles[i];
     return code;
+}
+
+/* ---- maps that are built. A null source, and what is taken away again, are asked for by smap.h. */
+
+/* Opens a builder, as smap_builder_open does. */
+inline uint32_t builder_open(Builder &builder, const std::string &base, const smap_limits *limits = nullptr)
+{
+    return smap_builder_open(builder.handle(), base.data(), base.size(), limits);
+}
+
+/* Gives the generated file this name. */
+inline uint32_t builder_file(Builder &builder, const std::string &file)
+{
+    return smap_builder_file(builder.handle(), true, file.data(), file.size());
+}
+
+/* The number of the source with this URL. */
+inline uint32_t builder_source(Builder &builder, const std::string &url, uint32_t &number)
+{
+    return smap_builder_source(builder.handle(), true, url.data(), url.size(), &number);
+}
+
+/* Gives a source this content. */
+inline uint32_t builder_content(Builder &builder, uint32_t source, const std::string &content)
+{
+    return smap_builder_content(builder.handle(), source, true, content.data(), content.size());
+}
+
+/* The number of a name. */
+inline uint32_t builder_name(Builder &builder, const std::string &name, uint32_t &number)
+{
+    return smap_builder_name(builder.handle(), name.data(), name.size(), &number);
+}
+
+/* Adds mappings, six numbers each, as smap_builder_add does. */
+inline uint32_t builder_add(Builder &builder, const std::vector<uint32_t> &numbers, size_t *wrong = nullptr)
+{
+    return smap_builder_add(builder.handle(), numbers.data(), numbers.size() / 6, wrong);
+}
+
+/* Closes the builder, and opens `out` on its map. */
+inline uint32_t builder_finish(Builder &builder, Map &out)
+{
+    return smap_builder_finish(builder.handle(), out.handle());
 }
 
 } // namespace smap

@@ -51,7 +51,7 @@ pub enum Error {
     Memory,
     /// The URLs of the sources take more bytes than they may.
     UrlBytes,
-    /// A composition has more sources or names than it may.
+    /// A map that is made has more sources or names than it may.
     TooMany,
 }
 
@@ -685,6 +685,106 @@ impl Scripts {
     }
 }
 
+/// A map that is built. Sources and names get numbers, by which mappings name them.
+///
+/// ```text
+/// let mut builder = smap::Builder::new("http://h/m/out.js.map", smap::Limits::default())?;
+/// let source = builder.source(Some("a.ts"))?;
+/// builder.add(&[[0, 7, source, 10, 2, u32::MAX]])?;
+/// let map = builder.finish()?;
+/// ```
+pub struct Builder(raw::Builder);
+
+// As for `Map`.
+unsafe impl Send for Builder {}
+
+impl Drop for Builder {
+    fn drop(&mut self) {
+        unsafe { smap_builder_close(&mut self.0) }
+    }
+}
+
+/// Whether there is a text, where it is, and its length.
+fn optional(text: Option<&str>) -> (bool, *const u8, usize) {
+    let bytes = text.unwrap_or_default();
+    (text.is_some(), bytes.as_ptr(), bytes.len())
+}
+
+impl Builder {
+    /// Nothing yet, for a map whose URL is `base`.
+    pub fn new(base: &str, limits: Limits) -> Result<Builder, Error> {
+        let mut builder = Builder(raw::Builder::default());
+        built(unsafe { smap_builder_open(&mut builder.0, base.as_ptr(), base.len(), &limits) })?;
+        Ok(builder)
+    }
+
+    /// Gives the generated file a name, or none, as at first.
+    pub fn set_file(&mut self, file: Option<&str>) -> Result<(), Error> {
+        let (has, at, len) = optional(file);
+        built(unsafe { smap_builder_file(&mut self.0, has, at, len) })
+    }
+
+    /// The number of the source with this URL, which may be relative to the base, or of the one without a
+    /// URL. The first call lists it, after the others, without content and not ignored.
+    pub fn source(&mut self, url: Option<&str>) -> Result<u32, Error> {
+        let ((has, at, len), mut number) = (optional(url), 0);
+        built(unsafe { smap_builder_source(&mut self.0, has, at, len, &mut number) })?;
+        Ok(number)
+    }
+
+    /// Gives a source its content, or none.
+    ///
+    /// # Panics
+    ///
+    /// The number isn't that of a source.
+    pub fn set_content(&mut self, source: u32, content: Option<&str>) -> Result<(), Error> {
+        let (has, at, len) = optional(content);
+        let code = unsafe { smap_builder_content(&mut self.0, source, has, at, len) };
+        assert_ne!(code, RANGE, "no source has the number {source}");
+        built(code)
+    }
+
+    /// Says whether a source is ignored.
+    ///
+    /// # Panics
+    ///
+    /// The number isn't that of a source.
+    pub fn set_ignored(&mut self, source: u32, is_ignored: bool) {
+        let code = unsafe { smap_builder_ignore(&mut self.0, source, is_ignored) };
+        assert_eq!(code, OK, "no source has the number {source}");
+    }
+
+    /// The number of a name. The first call lists it, after the others.
+    pub fn name(&mut self, name: &str) -> Result<u32, Error> {
+        let mut number = 0;
+        built(unsafe { smap_builder_name(&mut self.0, name.as_ptr(), name.len(), &mut number) })?;
+        Ok(number)
+    }
+
+    /// Adds mappings, in any order, by six numbers each, as for `spell`; or none of them if one is wrong, or
+    /// has a line beyond the limit, or a source or a name that there isn't.
+    pub fn add(&mut self, mappings: &[[u32; 6]]) -> Result<(), SpellError> {
+        let (numbers, mut wrong) = (mappings.as_ptr() as *const u32, 0);
+        match unsafe { smap_builder_add(&mut self.0, numbers, mappings.len(), &mut wrong) } {
+            OK => Ok(()),
+            RANGE => Err(SpellError::Wrong(wrong)),
+            _ => Err(SpellError::Memory),
+        }
+    }
+
+    /// The map. Its mappings are sorted; those at one position are in the order in which they were added.
+    pub fn finish(mut self) -> Result<Map, Error> {
+        let map = Map::closed();
+        built(unsafe { smap_builder_finish(&mut self.0, map.0.get()) })?;
+        Ok(map)
+    }
+}
+
+/// What a call on a builder came to.
+fn built(code: u32) -> Result<(), Error> {
+    if code == OK { Ok(()) } else { Err(error(code, &raw::Fault::default())) }
+}
+
 // What smap.h declares, to the end of the file: tools/write-bindings writes this out of capi/smap.h.
 impl Map {
     // An answer is none if there is nothing of that kind.
@@ -914,6 +1014,20 @@ mod raw {
 
     #[repr(C)]
     #[derive(Debug)]
+    pub struct Builder {
+        pub is_open: bool,
+        pub at: *mut u8,
+    }
+
+    impl Default for Builder {
+        fn default() -> Builder {
+            // zeros are a value of each field
+            unsafe { std::mem::zeroed() }
+        }
+    }
+
+    #[repr(C)]
+    #[derive(Debug)]
     pub struct Bytes {
         pub is_open: bool,
         pub at: *mut u8,
@@ -1001,6 +1115,23 @@ mod raw {
         ) -> u32;
         pub fn smap_thin(map: *mut Map, out: *mut Map) -> u32;
         pub fn smap_only_used(map: *mut Map, out: *mut Map) -> u32;
+        pub fn smap_builder_open(
+            builder: *mut Builder, base: *const u8, base_len: usize, limits: *const Limits,
+        ) -> u32;
+        pub fn smap_builder_file(builder: *mut Builder, has_file: bool, file: *const u8, len: usize) -> u32;
+        pub fn smap_builder_source(
+            builder: *mut Builder, has_url: bool, url: *const u8, len: usize, number: *mut u32,
+        ) -> u32;
+        pub fn smap_builder_content(
+            builder: *mut Builder, source: u32, has_content: bool, content: *const u8, len: usize,
+        ) -> u32;
+        pub fn smap_builder_ignore(builder: *mut Builder, source: u32, is_ignored: bool) -> u32;
+        pub fn smap_builder_name(builder: *mut Builder, name: *const u8, len: usize, number: *mut u32) -> u32;
+        pub fn smap_builder_add(
+            builder: *mut Builder, numbers: *const u32, mappings: usize, wrong: *mut usize,
+        ) -> u32;
+        pub fn smap_builder_finish(builder: *mut Builder, out: *mut Map) -> u32;
+        pub fn smap_builder_close(builder: *mut Builder);
         pub fn smap_bytes_data(bytes: *mut Bytes, at: *mut *const u8, len: *mut usize) -> u32;
         pub fn smap_bytes_copy(bytes: *mut Bytes, from: usize, out: *mut u8, room: usize) -> usize;
         pub fn smap_bytes_free(bytes: *mut Bytes);

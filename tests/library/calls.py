@@ -208,6 +208,27 @@ def ask_held(dice, made, opened):
     same(opened.counts().sources, len(made.urls))
 
 
+def ask_built(dice, made, opened):
+    """What the map says is built once more, by mappings in any order; numbers may be refused before."""
+    with smap.Builder(made.base) as builder:
+        sources = [builder.source(*words) for words in zip(made.written, made.contents, made.ignored)]
+        names = [builder.name(name) for name in made.names]
+        numbers = [number_like(dice, 6) for _ in range(6)]
+        numbers[2] = len(sources) + max(numbers[2], 0)
+        is_error(raised(builder.extend, numbers), (smap.Error, OverflowError), numbers)
+        line, column, source, there, across, name = numbers
+        found = raised(builder.add, line, column, source, (there, across), name)
+        is_error(found, (smap.Error, ValueError), numbers)
+        mappings = [(line, *mapping) for line, row in enumerate(made.lines) for mapping in row]
+        for line, column, source, there, across, name in dice.sample(mappings, len(mappings)):
+            if source is None:
+                builder.add(line, column)
+            else:
+                name = None if name is None else names[name]
+                builder.add(line, column, sources[source], (there, across), name)
+        same(builder.finish().canonical(), opened.canonical(), made.text)
+
+
 # ---- calls of a store
 
 
@@ -384,9 +405,9 @@ def ask_alike(dice, shop, temp):
     same(store.translate(log, ignore_query=dice.random() < 0.5), log)
 
 
-MAP_CALLS = [ask_lists, ask_position, ask_copies, ask_texts, ask_limits, ask_changed, ask_held]
+MAP_CALLS = [ask_lists, ask_position, ask_copies, ask_texts, ask_limits, ask_changed, ask_held, ask_built]
 # those that leave the map open
-COMMON_CALLS = [ask_lists, ask_position, ask_texts, ask_held]
+COMMON_CALLS = [ask_lists, ask_position, ask_texts, ask_held, ask_built]
 STORE_CALLS = [ask_log, ask_frames, ask_lookup, ask_what_it_knows]
 
 

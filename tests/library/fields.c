@@ -254,21 +254,27 @@ static void handles(void)
     GUARDED(smap_map) map;
     GUARDED(smap_bytes) bytes;
     GUARDED(smap_scripts) scripts;
+    GUARDED(smap_builder) builder;
     UNWRITE(map);
     UNWRITE(bytes);
     UNWRITE(scripts);
+    UNWRITE(builder);
     memset(&map.it, 0, sizeof map.it);
     memset(&bytes.it, 0, sizeof bytes.it);
     memset(&scripts.it, 0, sizeof scripts.it);
+    memset(&builder.it, 0, sizeof builder.it);
     CHECK(open_text(&map.it, map_text, NULL) == SMAP_OK && IS_OPEN(map));
     CHECK(smap_canonical(&map.it, &bytes.it) == SMAP_OK && IS_OPEN(map) && IS_OPEN(bytes));
     CHECK(smap_add_script(&scripts.it, "u", 1, &map.it) == SMAP_OK && IS_OPEN(map) && IS_OPEN(scripts));
+    CHECK(smap_builder_open(&builder.it, base, strlen(base), NULL) == SMAP_OK && IS_OPEN(builder));
     smap_close(&map.it);
     smap_bytes_free(&bytes.it);
     smap_close_scripts(&scripts.it);
+    smap_builder_close(&builder.it);
     CHECK(IS_CLOSED(map));
     CHECK(IS_CLOSED(bytes));
     CHECK(IS_CLOSED(scripts));
+    CHECK(IS_CLOSED(builder));
 }
 
 int main(void)

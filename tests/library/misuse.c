@@ -117,6 +117,152 @@ static void made_of(smap_map *map)
     smap_close(&out);
 }
 
+/* ---- maps that are built */
+
+#define NONE UINT32_MAX
+
+static void closed_builders(void)
+{
+    smap_builder builder = {0};
+    smap_map out = {0};
+    uint32_t number = 9;
+    size_t wrong = 9;
+    CHECK(smap_builder_file(&builder, true, "x", 1) == SMAP_CLOSED);
+    CHECK(smap_builder_file(&builder, true, "\xff", 1) == SMAP_NOT_UTF8);
+    CHECK(smap_builder_source(&builder, true, "http://[", 8, &number) == SMAP_CLOSED && number == 9);
+    CHECK(smap_builder_content(&builder, 0, false, NULL, 0) == SMAP_CLOSED);
+    CHECK(smap_builder_ignore(&builder, 0, true) == SMAP_CLOSED);
+    CHECK(smap_builder_name(&builder, "f", 1, &number) == SMAP_CLOSED && number == 9);
+    CHECK(smap_builder_add(&builder, NULL, 0, &wrong) == SMAP_CLOSED && wrong == 9);
+    CHECK(open_text(&out, text, NULL) == SMAP_OK);
+    CHECK(smap_builder_finish(&builder, &out) == SMAP_CLOSED && out.is_open && !builder.is_open);
+    smap_builder_close(&builder);
+    CHECK(!builder.is_open);
+    smap_close(&out);
+}
+
+static uint32_t open_builder(smap_builder *builder, const smap_limits *limits)
+{
+    return smap_builder_open(builder, base, strlen(base), limits);
+}
+
+static void opened_builders(void)
+{
+    smap_builder builder = {0};
+    smap_limits limits = {0, 16777216};
+    CHECK(smap_builder_open(&builder, NULL, 0, NULL) == SMAP_NOT_URL && !builder.is_open);
+    CHECK(smap_builder_open(&builder, "out.js.map", 10, NULL) == SMAP_NOT_URL);
+    CHECK(smap_builder_open(&builder, "http://h/\xff", 10, NULL) == SMAP_NOT_URL);
+    CHECK(open_builder(&builder, &limits) == SMAP_OK && builder.is_open);
+    limits.lines++;
+    CHECK(open_builder(&builder, &limits) == SMAP_LIMITS && builder.is_open);
+    CHECK(smap_builder_open(&builder, NULL, 0, &limits) == SMAP_LIMITS && builder.is_open);
+    limits = (smap_limits){2147483648u, 0};
+    CHECK(open_builder(&builder, &limits) == SMAP_LIMITS && builder.is_open);
+    CHECK(open_builder(&builder, NULL) == SMAP_OK && builder.is_open);
+    smap_builder_close(&builder);
+    smap_builder_close(&builder);
+    CHECK(!builder.is_open && builder.at == NULL);
+}
+
+/* Two sources, of which one has no URL, and two names, of which one is empty: as many as may be. */
+static void listed_by(smap_builder *builder)
+{
+    static const struct {
+        const char *url;
+        uint32_t code, number;
+    } rows[] = {
+        {"a.ts", SMAP_OK, 0}, {NULL, SMAP_OK, 1}, {"http://h/m/./a.ts", SMAP_OK, 0}, {NULL, SMAP_OK, 1},
+        {"b.ts", SMAP_TOO_MANY, 9}, {"", SMAP_TOO_MANY, 9}, {"http://[", SMAP_NOT_URL, 9},
+        {"\xff", SMAP_NOT_UTF8, 9},
+    };
+    uint32_t number;
+    for (size_t i = 0; i < sizeof rows / sizeof *rows; i++) {
+        const char *url = rows[i].url;
+        number = 9;
+        CHECK(smap_builder_source(builder, url != NULL, url, url ? strlen(url) : 0, &number) == rows[i].code);
+        CHECK(number == rows[i].number);
+    }
+    CHECK(smap_builder_source(builder, true, "a.ts", 4, NULL) == SMAP_OK);
+    CHECK(smap_builder_name(builder, "f", 1, &number) == SMAP_OK && number == 0);
+    CHECK(smap_builder_name(builder, NULL, 0, &number) == SMAP_OK && number == 1);
+    CHECK(smap_builder_name(builder, "f", 1, NULL) == SMAP_OK);
+    CHECK(smap_builder_name(builder, "g", 1, &number) == SMAP_TOO_MANY && number == 1);
+    CHECK(smap_builder_name(builder, "\xff", 1, &number) == SMAP_NOT_UTF8 && number == 1);
+}
+
+/* What is given last counts; what is refused changes nothing. */
+static void given_to(smap_builder *builder)
+{
+    CHECK(smap_builder_file(builder, true, "x", 1) == SMAP_OK);
+    CHECK(smap_builder_file(builder, false, NULL, 0) == SMAP_OK);
+    CHECK(smap_builder_file(builder, true, "out.js", 6) == SMAP_OK);
+    CHECK(smap_builder_file(builder, true, "\xff", 1) == SMAP_NOT_UTF8);
+    CHECK(smap_builder_content(builder, 0, true, "y", 1) == SMAP_OK);
+    CHECK(smap_builder_content(builder, 0, false, NULL, 0) == SMAP_OK);
+    CHECK(smap_builder_content(builder, 1, true, "B", 1) == SMAP_OK);
+    CHECK(smap_builder_content(builder, 1, true, "\xff", 1) == SMAP_NOT_UTF8);
+    CHECK(smap_builder_content(builder, 2, true, "B", 1) == SMAP_RANGE);
+    CHECK(smap_builder_content(builder, UINT32_MAX, false, NULL, 0) == SMAP_RANGE);
+    CHECK(smap_builder_ignore(builder, 0, true) == SMAP_OK);
+    CHECK(smap_builder_ignore(builder, 0, false) == SMAP_OK);
+    CHECK(smap_builder_ignore(builder, 1, true) == SMAP_OK);
+    CHECK(smap_builder_ignore(builder, 2, true) == SMAP_RANGE);
+}
+
+/* Of two mappings the second is refused, and the first isn't added either. */
+static void refused_by(smap_builder *builder)
+{
+    static const uint32_t rows[][6] = {
+        {2, 0, 0, 0, 0, 0}, {0, 2147483648, 0, 0, 0, 0}, {0, 0, 2, 0, 0, 0}, {0, 0, 0, 2147483648, 0, 0},
+        {0, 0, 0, 0, 2147483648, 0}, {0, 0, 0, 0, 0, 2}, {0, 0, NONE, NONE, NONE, 0}, {0, 0, 0, NONE, 0, 0},
+        {NONE, 0, NONE, NONE, NONE, NONE},
+    };
+    uint32_t both[12] = {0, 0, NONE, NONE, NONE, NONE};
+    for (size_t i = 0; i < sizeof rows / sizeof *rows; i++) {
+        size_t wrong = 9;
+        memcpy(both + 6, rows[i], sizeof rows[i]);
+        CHECK(smap_builder_add(builder, both, 2, &wrong) == SMAP_RANGE && wrong == 1);
+        CHECK(smap_builder_add(builder, both + 6, 1, NULL) == SMAP_RANGE);
+    }
+}
+
+static void built(void)
+{
+    /* On line 1 the first comes before the third, which is at the same position. */
+    static const uint32_t mappings[] = {
+        1, 4, 1, 0, 0, NONE, 0, 0, 0, 2, 1, 0, 1, 4, 0, 5, 0, NONE,
+    };
+    smap_builder builder = {0};
+    smap_limits limits = {2, 2};
+    smap_map out = {0}, wanted = {0};
+    smap_bytes bytes = {0};
+    size_t wrong = 9;
+    bool same = false;
+    CHECK(open_builder(&builder, &limits) == SMAP_OK);
+    CHECK(smap_builder_add(&builder, mappings, 1, &wrong) == SMAP_RANGE && wrong == 0);
+    listed_by(&builder);
+    given_to(&builder);
+    refused_by(&builder);
+    wrong = 9;
+    CHECK(smap_builder_add(&builder, NULL, 0, &wrong) == SMAP_OK && wrong == 9);
+    CHECK(smap_builder_add(&builder, mappings, 3, &wrong) == SMAP_OK && wrong == 9);
+    CHECK(smap_builder_finish(&builder, &out) == SMAP_OK && out.is_open && !builder.is_open);
+    CHECK(smap_flatten(&out, &bytes) == SMAP_OK && smap_bytes_copy(&bytes, 0, NULL, 0) > 0);
+    CHECK(open_text(&wanted, "{\"version\":3,\"file\":\"out.js\",\"sources\":[\"a.ts\",null],"
+                             "\"sourcesContent\":[null,\"B\"],\"ignoreList\":[1],\"names\":[\"f\",\"\"],"
+                             "\"mappings\":\"AAECA;ICFD,ADKA\"}", NULL) == SMAP_OK);
+    CHECK(smap_same(&out, &wanted, &same) == SMAP_OK && same);
+    CHECK(smap_listed_name(&out, 1, NULL, 0, &wrong) == SMAP_OK && wrong == 0);
+    CHECK(smap_written_source(&out, 0, NULL, 0, &wrong) == SMAP_OK && wrong == strlen("http://h/m/a.ts"));
+    CHECK(smap_canonical_relative(&out, &bytes) == SMAP_OK);
+    CHECK(open_builder(&builder, NULL) == SMAP_OK && smap_builder_finish(&builder, &out) == SMAP_OK);
+    CHECK(smap_canonical_mappings(&out, &bytes) == SMAP_OK && smap_bytes_copy(&bytes, 0, NULL, 0) == 0);
+    smap_bytes_free(&bytes);
+    smap_close(&wanted);
+    smap_close(&out);
+}
+
 static void numbers(smap_map *map)
 {
     smap_counts counts;
@@ -666,6 +812,9 @@ int main(void)
     bytes_of_urls();
     many_times_a_root();
     made_of(&map);
+    closed_builders();
+    opened_builders();
+    built();
     CHECK(smap_share(&map, &other) == SMAP_OK && smap_same(&map, &other, &same) == SMAP_OK && same);
     CHECK(open_text(&other, "{\"version\":3,\"mappings\":\"\"}", NULL) == SMAP_OK);
     CHECK(smap_same(&map, &other, &same) == SMAP_OK && !same);

@@ -61,6 +61,24 @@ int main()
     CHECK(smap::spell(numbers, bytes) == SMAP_OK && smap::text(bytes) == "C,GAECA");
     CHECK(smap::spell(std::vector<uint32_t>(), bytes, &wrong) == SMAP_OK && smap::text(bytes) == "");
     CHECK(smap::spell(std::vector<uint32_t>(6, none), bytes, &wrong) == SMAP_RANGE && wrong == 0);
+    smap::Builder builder, rest;
+    uint32_t source = 9, name = 9;
+    CHECK(smap::builder_file(builder, "out.js") == SMAP_CLOSED);
+    CHECK(smap::builder_open(builder, "out.js.map") == SMAP_NOT_URL && !builder.is_open());
+    CHECK(smap::builder_open(builder, base) == SMAP_OK && builder.is_open());
+    CHECK(smap::builder_file(builder, "out.js") == SMAP_OK);
+    CHECK(smap_builder_source(builder.handle(), false, nullptr, 0, &source) == SMAP_OK && source == 0);
+    CHECK(smap::builder_source(builder, "a.ts", source) == SMAP_OK && source == 1);
+    CHECK(smap::builder_content(builder, source, "x") == SMAP_OK);
+    CHECK(smap::builder_content(builder, 2, "x") == SMAP_RANGE);
+    CHECK(smap::builder_name(builder, "f", name) == SMAP_OK && name == 0);
+    rest = std::move(builder);
+    CHECK(smap::builder_add(rest, {0, 4, source, 2, 1, name, 0, 1, none, none, none, none}) == SMAP_OK);
+    CHECK(smap::builder_add(rest, {0, 4, 2, 2, 1, none}, &wrong) == SMAP_RANGE && wrong == 0);
+    CHECK(smap::builder_finish(rest, map) == SMAP_OK && !rest.is_open());
+    CHECK(smap_canonical(map.handle(), bytes.handle()) == SMAP_OK);
+    CHECK(smap::text(bytes) == "{\"file\":\"out.js\",\"mappings\":\"C,GCECA\",\"names\":[\"f\"],\"sources\":"
+                               "[null,\"http://h/m/a.ts\"],\"sourcesContent\":[null,\"x\"],\"version\":3}");
     bool alike = false;
     CHECK(smap::script_link("//# sourceMappingURL=a.map\n", out) == SMAP_OK && out == "a.map");
     CHECK(smap::script_link("//# sourceMappingURL=a.map", out, true) == SMAP_NONE && out == "");

@@ -117,6 +117,28 @@ static uint32_t spell_unsorted(void)
     return smap_spell(numbers, 2, &out, NULL);
 }
 
+static uint32_t build(void)
+{
+    static const uint32_t numbers[12] = {1, 0, 0, 0, 0, 0, 0, 2, 0, 0, 0, 0};
+    smap_builder builder = {0};
+    uint32_t source = 9, name = 9, code = smap_builder_open(&builder, base, strlen(base), NULL);
+    CHECK((code == SMAP_OK) == builder.is_open);
+    if (code == SMAP_OK) code = smap_builder_file(&builder, true, "out.js", 6);
+    if (code == SMAP_OK) code = smap_builder_source(&builder, true, "a.ts", 4, &source);
+    CHECK((code == SMAP_OK) == (source == 0));
+    if (code == SMAP_OK) code = smap_builder_content(&builder, source, true, "x", 1);
+    if (code == SMAP_OK) code = smap_builder_name(&builder, "f", 1, &name);
+    CHECK((code == SMAP_OK) == (name == 0));
+    if (code == SMAP_OK) code = smap_builder_add(&builder, numbers, 2, NULL);
+    CHECK(builder.is_open || source == 9);
+    if (code == SMAP_OK) {
+        code = smap_builder_finish(&builder, &other);
+        CHECK(!builder.is_open);
+    }
+    smap_builder_close(&builder);
+    return code;
+}
+
 static uint32_t line(void)
 {
     return smap_translate_line(&map, script, strlen(script), frame_line, strlen(frame_line), how, room,
@@ -286,6 +308,7 @@ int main(void)
     refuse("respell a broken text", respell_broken, SMAP_REFUSED);
     refuse("spell", spell, SMAP_OK);
     refuse("spell, unsorted", spell_unsorted, SMAP_OK);
+    refuse("build", build, SMAP_OK);
     refuse("a data: URL", data_url, SMAP_OK);
     refuse("the URL of a file", file_url, SMAP_OK);
     refuse("the path of a URL", file_path, SMAP_OK);

@@ -132,6 +132,30 @@ static void spellings(void)
     wrong_numbers();
 }
 
+static void builders(void)
+{
+    smap_builder builder = {0};
+    smap_map map = {0};
+    smap_bytes out = {0};
+    uint32_t source = 9, name = 9;
+    CHECK(smap_builder_open_text(&builder, NULL, NULL) == SMAP_NOT_URL);
+    CHECK(smap_builder_open_text(&builder, base, NULL) == SMAP_OK);
+    CHECK(smap_builder_file_text(&builder, true, "out.js") == SMAP_OK);
+    CHECK(smap_builder_source_text(&builder, false, NULL, NULL) == SMAP_OK);
+    CHECK(smap_builder_source_text(&builder, true, "a.ts", &source) == SMAP_OK && source == 1);
+    CHECK(smap_builder_content_text(&builder, source, true, "x") == SMAP_OK);
+    CHECK(smap_builder_content_text(&builder, 0, true, NULL) == SMAP_OK);
+    CHECK(smap_builder_name_text(&builder, "f", &name) == SMAP_OK && name == 0);
+    CHECK(smap_builder_name_text(&builder, "f", NULL) == SMAP_OK);
+    uint32_t numbers[6] = {0, 4, source, 2, 1, name};
+    CHECK(smap_builder_add(&builder, numbers, 1, NULL) == SMAP_OK);
+    CHECK(smap_builder_finish(&builder, &map) == SMAP_OK && smap_flatten(&map, &out) == SMAP_OK);
+    CHECK(holds(&out, "{\"file\":\"out.js\",\"mappings\":\"ICECA\",\"names\":[\"f\"],\"sources\":"
+                      "[null,\"http://h/m/a.ts\"],\"sourcesContent\":[\"\",\"x\"],\"version\":3}"));
+    smap_bytes_free(&out);
+    smap_close(&map);
+}
+
 /* What a program may have kept the address of takes NULL too. */
 static void by_address(smap_map *map)
 {
@@ -168,6 +192,7 @@ int main(void)
     traces(&map);
     links();
     spellings();
+    builders();
     by_address(&map);
     strictly(&map);
     smap_close(&map);

@@ -2,8 +2,8 @@
 #[path = "../../capi/rust/smap.rs"]
 mod smap;
 
-use smap::{Candidate, Counts, Error, FileKind, Limits, Line, ListedMapping, Map, Mapping, Named, Scripts};
-use smap::{SpellError, TraceCounts, TraceOptions};
+use smap::{Builder, Candidate, Counts, Error, FileKind, Limits, Line, ListedMapping, Map, Mapping, Named};
+use smap::{Scripts, SpellError, TraceCounts, TraceOptions};
 
 const BASE: &str = "http://h/m/out.js.map";
 const TEXT: &[u8] = br#"{"version":3,"file":"out.js","sources":["a.js","b.js","a.js",null],
@@ -178,6 +178,32 @@ fn spellings() {
     assert_eq!((wrong, wrong.to_string().as_str()), (SpellError::Wrong(2), "mapping 2: number out of range"));
 }
 
+fn builders() -> Result<(), Error> {
+    const NONE: u32 = u32::MAX;
+    assert_eq!(Builder::new("out.js.map", Limits::default()).err().unwrap().code(), 2);
+    let mut builder = Builder::new(BASE, Limits { items: 2, lines: 2 })?;
+    assert_eq!((builder.source(Some("a.ts"))?, builder.source(None)?, builder.source(None)?), (0, 1, 1));
+    assert_eq!(builder.source(Some("http://h/m/./a.ts"))?, 0);
+    assert_eq!(builder.source(Some("http://[")).err().unwrap().code(), 2);
+    assert!(matches!(builder.source(Some("b.ts")), Err(Error::TooMany)));
+    assert_eq!((builder.name("f")?, builder.name("")?, builder.name("f")?), (0, 1, 0));
+    builder.set_file(Some("out.js"))?;
+    builder.set_content(0, Some("x"))?;
+    builder.set_content(1, Some("y"))?;
+    builder.set_content(1, None)?;
+    builder.set_ignored(0, true);
+    let mut mappings = [[1, 4, 0, 0, 0, NONE], [0, 0, 0, 2, 1, 0], [1, 4, 0, 5, 0, NONE], [2, 0, 0, 0, 0, 0]];
+    assert_eq!(builder.add(&mappings), Err(SpellError::Wrong(3)));
+    mappings[3] = [1, 5, NONE, NONE, NONE, NONE];
+    assert_eq!(builder.add(&mappings), Ok(()));
+    let map = std::thread::spawn(move || builder.finish()).join().unwrap()?;
+    assert_eq!((map.file().as_deref(), map.url(0).as_deref()), (Some("out.js"), Some("http://h/m/a.ts")));
+    assert_eq!((map.url(1), map.content(0).as_deref(), map.content(1)), (None, Some("x"), None));
+    assert_eq!((map.is_ignored(0), map.listed_name(1).as_deref()), (Some(true), Some("")));
+    assert_eq!(map.canonical_mappings()?, b"AAECA;IAFD,AAKA,C");
+    Ok(())
+}
+
 fn names_of_maps() {
     let named = |text: &[u8]| smap::named_map(b"http://h/m/", b"a.js", text).unwrap();
     let rows: [(&[u8], Named); 8] = [
@@ -214,6 +240,7 @@ fn main() -> Result<(), Error> {
     fields()?;
     fields_of_a_fault();
     spellings();
+    builders()?;
     names_of_maps();
     let other = map.share()?;
     let found = std::thread::spawn(move || other.lookup(0, 5)).join().unwrap();

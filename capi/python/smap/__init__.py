@@ -19,6 +19,7 @@ map wait for one another; `share` gives a thread one of its own, which waits for
 """
 
 from ._library import Counts, Error, RefusedError, TraceCounts, version
+from .builder import Builder
 from .finders import Folders, Found, OutsideFolderError, RepeatedError
 from .frames import code_point
 from .links import alike, data_url, file_path, file_url, normal_form, resolve, script_link, script_name
@@ -28,7 +29,7 @@ from .maps import Map, Mapping, Source, respell, spell
 from .store import Store
 from .traces import Frame, Scripts, frame, named_scripts, translate
 
-__all__ = ["Counts", "Error", "Folders", "Found", "Frame", "Map", "Mapping", "OutsideFolder"]
+__all__ = ["Builder", "Counts", "Error", "Folders", "Found", "Frame", "Map", "Mapping", "OutsideFolder"]
 __all__ += ["OutsideFolderError", "Refused", "RefusedError", "Repeated", "RepeatedError", "Scripts", "Source"]
 __all__ += ["Store", "StoreCounts", "TraceCounts", "alike", "code_point", "data_url", "file_path", "file_url"]
 __all__ += ["frame", "named_scripts", "normal_form", "resolve", "respell", "script_link", "script_name"]

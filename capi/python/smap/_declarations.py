@@ -112,6 +112,10 @@ class ListedMapping(Structure):
     ]
 
 
+class Builder(Structure):
+    _fields_ = [("is_open", c_bool), ("at", c_void_p)]
+
+
 class Bytes(Structure):
     _fields_ = [("is_open", c_bool), ("at", c_void_p)]
 
@@ -165,6 +169,15 @@ FUNCTIONS: List[Tuple[Any, ...]] = [
     ),
     ("smap_thin", c_uint32, POINTER(Map), POINTER(Map)),
     ("smap_only_used", c_uint32, POINTER(Map), POINTER(Map)),
+    ("smap_builder_open", c_uint32, POINTER(Builder), c_char_p, c_size_t, POINTER(Limits)),
+    ("smap_builder_file", c_uint32, POINTER(Builder), c_bool, c_char_p, c_size_t),
+    ("smap_builder_source", c_uint32, POINTER(Builder), c_bool, c_char_p, c_size_t, POINTER(c_uint32)),
+    ("smap_builder_content", c_uint32, POINTER(Builder), c_uint32, c_bool, c_char_p, c_size_t),
+    ("smap_builder_ignore", c_uint32, POINTER(Builder), c_uint32, c_bool),
+    ("smap_builder_name", c_uint32, POINTER(Builder), c_char_p, c_size_t, POINTER(c_uint32)),
+    ("smap_builder_add", c_uint32, POINTER(Builder), POINTER(c_uint32), c_size_t, POINTER(c_size_t)),
+    ("smap_builder_finish", c_uint32, POINTER(Builder), POINTER(Map)),
+    ("smap_builder_close", None, POINTER(Builder)),
     ("smap_bytes_data", c_uint32, POINTER(Bytes), POINTER(POINTER(c_uint8)), POINTER(c_size_t)),
     ("smap_bytes_copy", c_size_t, POINTER(Bytes), c_size_t, c_char_p, c_size_t),
     ("smap_bytes_free", None, POINTER(Bytes)),

@@ -18,6 +18,9 @@ from ._declarations import Fault
 # The greatest numbers that the types of the library hold. ctypes cuts off the bits above them.
 LARGEST_U32, LARGEST_SIZE = 0xFFFFFFFF, c_size_t(-1).value
 
+# The greatest number of a mapping, and what stands for one that it doesn't have.
+LARGEST_NUMBER, NO_NUMBER = 0x7FFFFFFF, 0xFFFFFFFF
+
 
 Owned = TypeVar("Owned", bound="Owner")
 
@@ -218,6 +221,26 @@ def as_url(name: str, value: str) -> bytes:
     if isinstance(value, str):
         return value.encode()
     raise TypeError(f"{name} is a URL in a str, not {type(value).__name__}")
+
+
+def as_text(name: str, value: Optional[str]) -> bytes:
+    """A text for the library; None is empty. Raises TypeError where it is neither."""
+    if value is None or isinstance(value, str):
+        return (value or "").encode()
+    raise TypeError(f"{name} is a str, not {type(value).__name__}")
+
+
+def number_of(name: str, value: int) -> int:
+    """A number of a mapping. Raises TypeError where it is no int, and ValueError where it is out of range."""
+    try:
+        number = operator.index(value)
+    except TypeError:
+        raise TypeError(f"{name} is an int, not {type(value).__name__}") from None
+    if number < 0:
+        raise ValueError(f"{name} is below 0")
+    if number > LARGEST_NUMBER:
+        raise ValueError(f"{name} is above {LARGEST_NUMBER}")
+    return number
 
 
 def index_of(value: int) -> int:

@@ -3,7 +3,7 @@
 from __future__ import annotations
 
 import os
-from ctypes import byref, c_bool, c_size_t, c_uint32, create_string_buffer
+from ctypes import Array, byref, c_bool, c_size_t, c_uint32, create_string_buffer
 from dataclasses import dataclass
 from typing import AnyStr, Callable, Dict, Iterable, Iterator, List, Optional, Tuple, Union
 
@@ -61,16 +61,22 @@ def spell(numbers: Union[bytes, Iterable[int]]) -> bytes:
     Error, whose code is 7 (SMAP_RANGE of smap.h), names the first mapping that has other numbers, as one
     above 2147483647. Numbers of more bits raise OverflowError, and a part of a mapping ValueError.
     """
-    data, out, wrong = as_words(numbers), declared.Bytes(), c_size_t()
-    count, rest = divmod(len(data), 24)
-    if rest:
-        raise ValueError("mappings have six numbers each")
-    words = (c_uint32 * max(6 * count, 1)).from_buffer_copy(data or bytes(4))
+    words, count = mapping_words(numbers)
+    out, wrong = declared.Bytes(), c_size_t()
     code = lib.smap_spell(words, count, byref(out), byref(wrong))
     if code == RANGE:
         raise Error(code, f"mapping {wrong.value}: number out of range")
     check(code)
     return taken(out)
+
+
+def mapping_words(numbers: Union[bytes, Iterable[int]]) -> Tuple[Array[c_uint32], int]:
+    """The numbers of mappings for the library, and how many mappings these are."""
+    data = as_words(numbers)
+    count, rest = divmod(len(data), 24)
+    if rest:
+        raise ValueError("mappings have six numbers each")
+    return (c_uint32 * max(6 * count, 1)).from_buffer_copy(data or bytes(4)), count
 
 
 class Map(Owner):

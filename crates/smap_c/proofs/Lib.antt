@@ -1,3 +1,4 @@
+pub mod BuildingLemmas
 pub mod BytesLemmas
 pub mod ComposingLemmas
 pub mod LinkLemmas

@@ -3,6 +3,7 @@ use Rattle.std.specs.Prelude.{◌≡◌, ℕ, Bool, true, false, List, Option, S
 use Rattle.std.specs.Fn.{Once}
 use denote.Ref.{Bor, MutBor}
 use Rattle.std.specs.Global.{Vec}
+use Rattle.smap_compose.specs.Building.{Made}
 use Rattle.smap_trace.specs.Translation.{Script}
 use Rattle.smap_c.specs.declared.handles.Held.{Held}
 use Rattle.smap_c.specs.declared.handles.Held.TheVariants as held
@@ -23,6 +24,10 @@ abbrev pub is_scripts : Held → Bool
 is_scripts (held.Scripts ss) = true
 is_scripts h = false
 
+abbrev pub is_builder : Held → Bool
+is_builder (held.Builder b) = true
+is_builder h = false
+
 -- there is nothing, or what there is is of that kind
 abbrev pub is_none_or : (Held → Bool) → Option Held → Bool
 is_none_or is None = true
@@ -42,6 +47,10 @@ held_bytes h = None
 abbrev pub held_scripts : Option Held → Option (List Script)
 held_scripts (Some (held.Scripts ss)) = Some ss
 held_scripts h = None
+
+abbrev pub held_builder : Option Held → Option Made
+held_builder (Some (held.Builder b)) = Some b.value
+held_builder h = None
 
 -- ---- what is asked of a map, for private contracts
 

@@ -1,3 +1,4 @@
+pub mod Building
 pub mod Bytes
 pub mod Composing
 pub mod Faults

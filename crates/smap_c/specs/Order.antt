@@ -4,6 +4,7 @@ use Rattle.std.specs.Prelude.{◌≡◌}
 use Rattle.smap_c_answers.specs.declared.spelling.MappingNumbers.{MappingNumbers}
 use Rattle.smap_c.specs.declared.faults.SmapFault.{SmapFault}
 use Rattle.smap_c.specs.declared.handles.Owner.{Owner}
+use Rattle.smap_c.specs.declared.handles.SmapBuilder.{SmapBuilder}
 use Rattle.smap_c.specs.declared.handles.SmapBytes.{SmapBytes}
 use Rattle.smap_c.specs.declared.handles.SmapMap.{SmapMap}
 use Rattle.smap_c.specs.declared.handles.SmapScripts.{SmapScripts}
@@ -16,6 +17,7 @@ use Rattle.smap_c.specs.declared.traces.SmapFrameParts.{SmapFrameParts}
 use Rattle.smap_c_answers.specs.contracts.spelling.MappingNumbers as numbers
 use Rattle.smap_c.specs.contracts.faults.SmapFault as fault
 use Rattle.smap_c.specs.contracts.handles.Owner as owner
+use Rattle.smap_c.specs.contracts.handles.SmapBuilder as builder
 use Rattle.smap_c.specs.contracts.handles.SmapBytes as bytes
 use Rattle.smap_c.specs.contracts.handles.SmapMap as map
 use Rattle.smap_c.specs.contracts.handles.SmapScripts as scripts
@@ -77,6 +79,9 @@ BytesOrder = (h : SmapBytes) → bytes.the_type.as_values h ≡ h.is_open then h
 
 abbrev pub ScriptsOrder : Type 0
 ScriptsOrder = (h : SmapScripts) → scripts.the_type.as_values h ≡ h.is_open then h.owner then tt
+
+abbrev pub BuilderOrder : Type 0
+BuilderOrder = (h : SmapBuilder) → builder.the_type.as_values h ≡ h.is_open then h.owner then tt
 
 abbrev pub OwnerOrder : Type 0
 OwnerOrder = (o : Owner) → owner.the_type.as_values o ≡ o.at then o.alloc then tt

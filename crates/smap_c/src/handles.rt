@@ -1,26 +1,29 @@
-//! The handles of maps, bytes and scripts: structs of the caller's. Each owns what it holds in a box, by a
-//! pointer that C carries.
+//! The handles of maps, bytes, scripts and builders: structs of the caller's. Each owns what it holds in a
+//! box, by a pointer that C carries.
 ghost use Rattle.std.specs.Prelude.{◌≡◌, ◌↔◌, Option, Some, None, IfOk, IfSome, IsSome, IsTrue, MatchOption};
 ghost use Rattle.std.specs.Box.Ownership.{box_owns};
-ghost use Rattle.smap_c.specs.Handles.{held_bytes, held_map, held_scripts, is_bytes, is_map, is_scripts};
-ghost use Rattle.smap_c.specs.Handles.{IsAsked, IsTextAsked, is_none_or};
+ghost use Rattle.smap_c.specs.Handles.{held_builder, held_bytes, held_map, held_scripts};
+ghost use Rattle.smap_c.specs.Handles.{IsAsked, IsTextAsked};
+ghost use Rattle.smap_c.specs.Handles.{is_builder, is_bytes, is_map, is_none_or, is_scripts};
 ghost use Rattle.smap_c.specs.declared.handles.Held.{Held};
 
 use crate::maps::Shared;
 use crate::opened::Opened;
 use smap_c_answers::CLOSED;
+use smap_compose::Builder;
 use smap_mappings::Memory;
 use smap_trace::Scripts;
 use std::alloc::{Allocator, Global};
 use std::marker::Model;
 use std::mem;
 
-/// What a handle holds: a share in a map, bytes, or scripts.
+/// What a handle holds: a share in a map, bytes, scripts, or a builder, which has far more fields than those.
 #[derive(Drop)]
 pub enum Held {
     Map(Shared),
     Bytes(Vec<u8>),
     Scripts(Scripts<Shared>),
+    Builder(Box<Builder>),
 }
 
 impl Held {
@@ -41,7 +44,7 @@ impl Held {
     {
         match self {
             Held::Map(shared) => shared,
-            Held::Bytes(_) | Held::Scripts(_) => unreachable!(),
+            Held::Bytes(_) | Held::Scripts(_) | Held::Builder(_) => unreachable!(),
         }
     }
 
@@ -60,7 +63,7 @@ impl Held {
     {
         match self {
             Held::Bytes(bytes) => bytes,
-            Held::Map(_) | Held::Scripts(_) => unreachable!(),
+            Held::Map(_) | Held::Scripts(_) | Held::Builder(_) => unreachable!(),
         }
     }
 
@@ -71,7 +74,18 @@ impl Held {
     {
         match self {
             Held::Scripts(scripts) => scripts,
-            Held::Map(_) | Held::Bytes(_) => unreachable!(),
+            Held::Map(_) | Held::Bytes(_) | Held::Builder(_) => unreachable!(),
+        }
+    }
+
+    /// The builder.
+    pub(crate) fn into_builder(self) -> Builder
+        requires { IsTrue (is_builder self) }
+        ensures { held_builder (Some self) ≡ Some result }
+    {
+        match self {
+            Held::Builder(builder) => Box::into_inner(builder),
+            Held::Map(_) | Held::Bytes(_) | Held::Scripts(_) => unreachable!(),
         }
     }
 }
@@ -302,6 +316,53 @@ impl SmapScripts {
         ensures kind { IfSome result (λ b. IsTrue (is_scripts b.value)) }
     {
         let SmapScripts { is_open, owner } = self;
+        owner.into_box(is_open)
+    }
+}
+
+/// The handle of a builder. C makes one by zeros, which is closed, and never writes into it nor copies it.
+#[repr(C)]
+pub struct SmapBuilder {
+    is_open: bool,
+    pub owner: Owner,
+    ghost tied: { IsTrue is_open ↔ IsSome owner.value },
+    ghost kind: { IsTrue (is_none_or is_builder owner.value) },
+}
+
+impl Drop for SmapBuilder {
+    fn drop(self) {
+        drop(self.into_box());
+    }
+}
+
+impl SmapBuilder {
+    /// The handle that is closed.
+    pub(crate) fn closed(alloc: Global) -> SmapBuilder
+        ensures { result.owner.value ≡ None }
+    {
+        SmapBuilder {
+            is_open: false,
+            owner: Owner::none(alloc),
+        }
+    }
+
+    /// The handle that owns this.
+    pub(crate) fn of(held: Box<Held>) -> SmapBuilder
+        requires { IsTrue (is_builder held.value) }
+        ensures { result.owner.value ≡ Some held.value }
+    {
+        SmapBuilder {
+            is_open: true,
+            owner: Owner::of(Loose::of(held)),
+        }
+    }
+
+    /// What it owns.
+    pub(crate) fn into_box(self) -> Option<Box<Held>>
+        ensures value { MatchOption result (self.owner.value ≡ None) (λ b. self.owner.value ≡ Some b.value) }
+        ensures kind { IfSome result (λ b. IsTrue (is_builder b.value)) }
+    {
+        let SmapBuilder { is_open, owner } = self;
         owner.into_box(is_open)
     }
 }

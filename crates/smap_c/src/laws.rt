@@ -1,7 +1,7 @@
 //! What holds of the structs that cross to C, and of calls as they were in version 0.1.
 ghost use Rattle.std.specs.Prelude.{false, true};
-ghost use Rattle.smap_c.specs.Order.{BytesOrder, CountsOrder, FaultOrder, FrameOrder, LimitsOrder};
-ghost use Rattle.smap_c.specs.Order.{ListedOrder, MapOrder, MappingOrder, NumbersOrder, OwnerOrder};
+ghost use Rattle.smap_c.specs.Order.{BuilderOrder, BytesOrder, CountsOrder, FaultOrder, FrameOrder};
+ghost use Rattle.smap_c.specs.Order.{LimitsOrder, ListedOrder, MapOrder, MappingOrder, NumbersOrder, OwnerOrder};
 ghost use Rattle.smap_c.specs.Order.{ScriptsOrder, TraceCountsOrder};
 ghost use Rattle.smap_c.specs.Traces.{AsksByBool};
 
@@ -22,6 +22,7 @@ pub fn handles_in_order()
     ensures map { MapOrder × OwnerOrder }
     ensures bytes { BytesOrder × OwnerOrder }
     ensures scripts { ScriptsOrder × OwnerOrder }
+    ensures builder { BuilderOrder × OwnerOrder }
 {}
 
 /// A caller that passes whether to hide, as a `bool`, gets what it got when the parameter was one.

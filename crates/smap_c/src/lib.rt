@@ -5,6 +5,7 @@
 //! their whole length. Each export calls a function of the libraries and states its clauses again.
 #![tactic(auto)]
 
+mod building;
 mod bytes;
 mod codes;
 mod composing;

@@ -116,7 +116,7 @@ fn open(alloc: Global, bytes: &[u8], base: &[u8], limits: &SmapLimits) -> Result
     };
     match Base::new(alloc, text) {
         Ok(base) => match SourceMap::from_slice_as_written(alloc, bytes, &base, limits) {
-            Ok((map, written)) => match Opened::new(alloc, base, map, written) {
+            Ok((map, written)) => match Opened::new(alloc, base, map, Some(written)) {
                 Ok(opened) => Ok(opened),
                 Err(_) => Err(OpenFault::Memory),
             },

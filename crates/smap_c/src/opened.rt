@@ -1,5 +1,5 @@
 //! What a handle of a map owns.
-ghost use Rattle.std.specs.Prelude.{◌≡◌, IfOk, Some, None};
+ghost use Rattle.std.specs.Prelude.{◌≡◌, IfOk, None};
 ghost use Rattle.smap_record.specs.Record.{record_of};
 ghost use Rattle.smap_trace.specs.LineStarts.{line_starts};
 
@@ -21,16 +21,16 @@ pub struct Opened {
 }
 
 impl Opened {
-    /// What a map was read as, with the table of its lines.
+    /// A map against its base, with the table of its lines.
     pub(crate) fn new(
         alloc: Global,
         base: Base,
         map: SourceMap,
-        written: WrittenSources,
+        written: Option<WrittenSources>,
     ) -> Result<Opened, Memory>
         ensures base { IfOk result (λ o. o.base.value ≡ base) }
         ensures map { IfOk result (λ o. o.map ≡ map) }
-        ensures written { IfOk result (λ o. o.written ≡ Some written) }
+        ensures written { IfOk result (λ o. o.written ≡ written) }
     {
         let starts = LineStarts::new(alloc, &map)?;
         let Ok(base) = Arc::new(alloc, base) else {
@@ -39,7 +39,7 @@ impl Opened {
         Ok(Opened {
             base,
             map,
-            written: Some(written),
+            written,
             starts,
         })
     }

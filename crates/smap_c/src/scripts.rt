@@ -50,7 +50,7 @@ fn put(held: &mut Held, url: Vec<u8>, shared: Shared) -> Result<(), Memory>
 {
     match held {
         Held::Scripts(scripts) => scripts.put(url, shared),
-        Held::Map(_) | Held::Bytes(_) => unreachable!(),
+        Held::Map(_) | Held::Bytes(_) | Held::Builder(_) => unreachable!(),
     }
 }
 

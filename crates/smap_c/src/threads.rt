@@ -1,9 +1,9 @@
 //! A handle may go to another thread: each of these gives back its own, and promises that its type may cross.
 ghost use Rattle.std.specs.Prelude.{◌≡◌};
 ghost use Rattle.std.specs.Thread.{IsSend};
-ghost use Rattle.smap_c.specs.Threads.{BytesCross, MapCrosses, ScriptsCross};
+ghost use Rattle.smap_c.specs.Threads.{BuilderCrosses, BytesCross, MapCrosses, ScriptsCross};
 
-use crate::handles::{SmapBytes, SmapMap, SmapScripts};
+use crate::handles::{SmapBuilder, SmapBytes, SmapMap, SmapScripts};
 
 /// What the bound means.
 fn crosses<T: Send + Drop>(it: T) -> T
@@ -32,4 +32,11 @@ pub fn scripts_cross(scripts: SmapScripts) -> SmapScripts
     ensures sent { ScriptsCross }
 {
     crosses(scripts)
+}
+
+pub fn builder_crosses(builder: SmapBuilder) -> SmapBuilder
+    ensures same { result ≡ builder }
+    ensures sent { BuilderCrosses }
+{
+    crosses(builder)
 }

@@ -23,7 +23,7 @@ fn open_against(
     ensures { OpensAgainst bytes.now base limits most result }
 {
     match SourceMap::from_slice_within(alloc, bytes, &base, limits, most) {
-        Ok(Some((map, written))) => match Opened::new(alloc, base, map, written) {
+        Ok(Some((map, written))) => match Opened::new(alloc, base, map, Some(written)) {
             Ok(opened) => Ok(Some(opened)),
             Err(_) => Err(OpenFault::Memory),
         },

@@ -22,5 +22,5 @@ pub use codes::{
 pub use fault_words::fault_text;
 pub use memory::memory_of;
 pub use named::{number_of, number_of_kind};
-pub use spelling::{MappingNumbers, first_wrong, spelled};
+pub use spelling::{MappingNumbers, first_wrong, is_mapping, spelled, token_of};
 pub use strings::{copy_out, report_bytes, report_text};

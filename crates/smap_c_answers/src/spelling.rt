@@ -52,7 +52,8 @@ fn is_mapped(m: &MappingNumbers) -> bool
         && (m.name == NO_NUMBER || is_number(m.name))
 }
 
-fn is_mapping(m: &MappingNumbers) -> bool
+/// Whether the numbers are those of a mapping.
+pub fn is_mapping(m: &MappingNumbers) -> bool
     ensures { result ≡ spec.is_mapping m.now }
 {
     m.line < MAX_LINES && is_number(m.column) && (is_unmapped(m) || is_mapped(m))
@@ -85,7 +86,8 @@ fn original_of(m: &MappingNumbers) -> Option<Original>
     })
 }
 
-fn token_of(m: &MappingNumbers) -> Token
+/// The token that a mapping's numbers stand for.
+pub fn token_of(m: &MappingNumbers) -> Token
     ensures { result ≡ spec.token_of m.now }
 {
     Token {

@@ -1,7 +1,9 @@
+pub mod BuildingLemmas
 pub mod ChainLemmas
 pub mod ClosingLemmas
 pub mod DeepLemmas
 mod Examples
+pub mod TableLemmas
 pub mod FitLemmas
 pub mod LeadingLemmas
 pub mod LookupLemmas

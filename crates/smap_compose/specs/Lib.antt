@@ -1,3 +1,6 @@
+pub mod Adding
+pub mod Building
+pub mod Built
 pub mod Chain
 pub mod Closed
 pub mod Composing

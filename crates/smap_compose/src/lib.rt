@@ -5,6 +5,8 @@
 //! positions, and a lookup in it is one lookup after the other, at every line and column.
 #![tactic(auto)]
 
+mod adding;
+mod building;
 mod chain;
 mod composing;
 mod deep;
@@ -14,13 +16,15 @@ mod joining;
 pub mod laws;
 mod leading;
 mod standing;
+mod tables;
 mod thinning;
 mod using;
 
+pub use building::Builder;
 pub use chain::compose_chain;
 pub use composing::compose;
 pub use deep::compose_deep;
-pub use error::ComposeError;
+pub use error::{BuildError, ComposeError};
 pub use leading::first_unled;
 pub use thinning::thin;
 pub use using::only_used;

@@ -10,6 +10,8 @@
 #[cfg(test)]
 mod asserted;
 #[cfg(test)]
+mod building;
+#[cfg(test)]
 mod devices;
 #[cfg(test)]
 mod lookups;

@@ -151,6 +151,20 @@ pub struct smap_listed_mapping {
 
 #[repr(C)]
 #[derive(Debug)]
+pub struct smap_builder {
+    pub is_open: bool,
+    pub at: *mut c_void,
+}
+
+impl Default for smap_builder {
+    fn default() -> smap_builder {
+        // zeros are a value of each field
+        unsafe { std::mem::zeroed() }
+    }
+}
+
+#[repr(C)]
+#[derive(Debug)]
 pub struct smap_bytes {
     pub is_open: bool,
     pub at: *mut c_void,
@@ -242,6 +256,27 @@ extern "C" {
     ) -> u32;
     pub fn smap_thin(map: *mut smap_map, out: *mut smap_map) -> u32;
     pub fn smap_only_used(map: *mut smap_map, out: *mut smap_map) -> u32;
+    pub fn smap_builder_open(
+        builder: *mut smap_builder, base: *const c_char, base_len: usize, limits: *const smap_limits,
+    ) -> u32;
+    pub fn smap_builder_file(
+        builder: *mut smap_builder, has_file: bool, file: *const c_char, len: usize,
+    ) -> u32;
+    pub fn smap_builder_source(
+        builder: *mut smap_builder, has_url: bool, url: *const c_char, len: usize, number: *mut u32,
+    ) -> u32;
+    pub fn smap_builder_content(
+        builder: *mut smap_builder, source: u32, has_content: bool, content: *const c_char, len: usize,
+    ) -> u32;
+    pub fn smap_builder_ignore(builder: *mut smap_builder, source: u32, is_ignored: bool) -> u32;
+    pub fn smap_builder_name(
+        builder: *mut smap_builder, name: *const c_char, len: usize, number: *mut u32,
+    ) -> u32;
+    pub fn smap_builder_add(
+        builder: *mut smap_builder, numbers: *const u32, mappings: usize, wrong: *mut usize,
+    ) -> u32;
+    pub fn smap_builder_finish(builder: *mut smap_builder, out: *mut smap_map) -> u32;
+    pub fn smap_builder_close(builder: *mut smap_builder);
     pub fn smap_bytes_data(bytes: *mut smap_bytes, at: *mut *const u8, len: *mut usize) -> u32;
     pub fn smap_bytes_copy(bytes: *mut smap_bytes, from: usize, out: *mut c_void, room: usize) -> usize;
     pub fn smap_bytes_free(bytes: *mut smap_bytes);
@@ -364,6 +399,9 @@ mod tests {
         field!(smap_listed_mapping, source, 20, 4);
         field!(smap_listed_mapping, name, 24, 4);
         whole!(smap_listed_mapping, 28);
+        field!(smap_builder, is_open, 0, 1);
+        field!(smap_builder, at, 8, 8);
+        whole!(smap_builder, 16);
         field!(smap_bytes, is_open, 0, 1);
         field!(smap_bytes, at, 8, 8);
         whole!(smap_bytes, 16);

@@ -51,3 +51,22 @@ fn the_library_is_of_the_version_of_the_declarations() {
     assert_eq!(SMAP_VERSION_PATCH.to_string(), env!("CARGO_PKG_VERSION_PATCH"));
     assert_eq!(unsafe { smap_version() }, SMAP_VERSION);
 }
+
+#[test]
+fn a_map_is_built() {
+    let (mut builder, mut map) = (smap_builder::default(), smap_map::default());
+    let (limits, mut found) = (smap_limits::default(), smap_mapping::default());
+    let (mut source, mut wrong) = (9, 9);
+    unsafe {
+        let opened = smap_builder_open(&mut builder, BASE.as_ptr().cast(), BASE.len(), &limits);
+        assert_eq!((opened, builder.is_open), (SMAP_OK, true));
+        let url = b"a.ts".as_ptr().cast();
+        assert_eq!(smap_builder_source(&mut builder, true, url, 4, &mut source), SMAP_OK);
+        let mapping = [0, 7, source, 10, 2, u32::MAX];
+        assert_eq!(smap_builder_add(&mut builder, mapping.as_ptr(), 1, &mut wrong), SMAP_OK);
+        assert_eq!(smap_builder_finish(&mut builder, &mut map), SMAP_OK);
+        assert_eq!(smap_lookup(&mut map, 0, 7, &mut found), SMAP_OK);
+        smap_close(&mut map);
+    }
+    assert_eq!((source, wrong, found.source_line, builder.is_open), (0, 9, 10, false));
+}

@@ -1,0 +1,9 @@
+use Rattle.std.proofs.Common.{inr, refl, rules}
+use Rattle.std.specs.Prelude.{IsUtf8}
+use Rattle.smap_c.proofs.BuildingLemmas.{not_text}
+use Rattle.smap_c.proofs.building.smap_builder_content.Goals as goal
+
+pub returns-in_default : goal.returns-in_default
+returns-in_default c =
+    let wrong : IsUtf8 c.args.content.now → ⊥ = search rules in
+    inr (not_text c.args.has_content c.args.content.now c.if-not-has_content.false wrong, refl, refl)
