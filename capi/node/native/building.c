@@ -124,7 +124,7 @@ static napi_value do_builder_content(napi_env env, napi_callback_info info)
     CALL(napi_get_value_uint32(env, w[1], &source));
     if (!text_or_null(env, w[2], &content, &has)) return NULL;
     uint32_t code = smap_builder_content(&boxed->builder, source, has, content.at, content.len);
-    if (code == SMAP_OK && source >= boxed->contents) {
+    if (code == SMAP_OK && has && source >= boxed->contents) {
         hold(env, boxed, content.len);
         boxed->contents = source + 1;
     }
