@@ -45,7 +45,7 @@ class Builder {
   }
 
   source(url, { content, ignored } = {}) {
-    const text = content == null ? content : textOf(content, 'a content');
+    const text = content == null ? content : textOf(content, 'content');
     const number = native.builderSource(this.#handle, url === null ? null : urlOf(url));
     this.#sources = Math.max(this.#sources, number + 1);
     if (text !== undefined) native.builderContent(this.#handle, number, text);
