@@ -1,5 +1,6 @@
 -- A map that is built can take a mapping that isn't refused, and be finished.
-use Rattle.std.proofs.Common.{◌≡◌, ℕ, ◌<◌, List, [], ◌∷◌, ◌++◌, length, Option, Some, None, Result, Ok, Err, arith}
+use Rattle.std.proofs.Common.{◌≡◌, ℕ, ◌<◌, List, [], ◌∷◌, ◌++◌, length, Option, Some, None, arith}
+use Rattle.std.proofs.Common.{Result, Ok, Err}
 use Rattle.std.specs.Prelude.{IfSome, OnErr, OnOk, option_and_then}
 use Rattle.std.specs.List.{AllByRecursion}
 use Rattle.std.proofs.lemmas.Bool.{cond_both}
@@ -32,7 +33,8 @@ module _ (m : Made) (can : CanBeFinished m) where
       let name = under n (length m.names) _ None e in
       (name.0, omega (arith, name.0, can.few_names, can.items))
 
-  original_told : (original : Option Original) → option_and_then (original_fault (bounds_of m)) original ≡ None
+  original_told : (original : Option Original)
+      → option_and_then (original_fault (bounds_of m)) original ≡ None
       → IfSome original (IsListedOriginal (listing_with m [])) × IfSome original IsOriginal
   original_told None e = (tt, tt)
   original_told (Some o) e =

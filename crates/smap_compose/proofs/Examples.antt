@@ -1,10 +1,21 @@
 -- Known answers, computed by the definitions.
 use Rattle.std.proofs.Common.{◌≡◌, ℕ, List, [], ◌∷◌, Option, Some, None, Bool, true, false, refl}
-use Rattle.std.specs.Prelude.{codes}
-use Rattle.smap_record.specs.Record.{Entry, Origin, Mapping, Record, no_labels, distinct}
-use Rattle.smap_compose.specs.Chain.{chained, led_to, unled}
+use Rattle.std.proofs.Common.{Result, Ok, Err}
+use Rattle.std.specs.Prelude.{codes, ◌++◌}
+use Rattle.std.specs.Fmt.{digits}
+use Rattle.smap_vlq.specs.Number.{digit_byte, shortest_digits, spelling}
+use Rattle.smap_mappings.specs.Text.{mappings_text}
+use Rattle.smap_frames.specs.Reading.{frame_of}
+use Rattle.smap_record.specs.Record.{Entry, Origin, Mapping, Parts, Record, distinct, no_labels, record_of}
+use Rattle.smap_record.specs.Record.{usual}
+use Rattle.smap_trace.specs.Translation.{translation}
+use Rattle.smap_compose.specs.declared.error.BuildError.{BuildError}
+use Rattle.smap_compose.specs.Building.{Made, content_due, ignored_due, listing_made, map_made, mapping_due}
+use Rattle.smap_compose.specs.Building.{name_due, nothing, put_sources, with_url, within}
+use Rattle.smap_compose.specs.Chain.{Link, chained, closed, led_to, unled}
 use Rattle.smap_compose.specs.Composing.{composition}
 use Rattle.smap_compose.specs.Thinning.{thinned}
+use Rattle.smap_compose.specs.TraceLaws.{in_turn}
 use Rattle.smap_compose.specs.Using.{used}
 
 abbrev source : List ℕ → Entry
@@ -152,3 +163,68 @@ led_to_each = refl
 first_unled : unled (says (a_js ∷ []) []) (link (codes "a.js") m_js ∷ link (codes "a.js") a_ts ∷ [])
     ≡ Some 1
 first_unled = refl
+
+-- ---- a map that is built
+
+-- what a call makes of this
+abbrev then : {A : Type 0} → Made → Result (A × Made) BuildError → Made
+then m (Ok p) = p.1
+then m (Err e) = m
+
+abbrev sourced : Made → Entry → Made
+sourced m e = then m (within (put_sources m) (with_url m.limits.items e.url m.sources))
+
+abbrev added : Made → ℕ → ℕ → ℕ → ℕ → ℕ → Option ℕ → Made
+added m line column source original_line original_column name = then m (mapping_due m (record {
+  line = line;
+  column = column;
+  original = Some (record { source = source; line = original_line; column = original_column; name = name });
+}))
+
+-- Two sources, a name and the name of the file, against any base.
+abbrev listed : Parts → Made
+listed base =
+    let one = sourced (sourced (record (nothing base usual) { file = Some (codes "out.js") }) a_ts) b_ts in
+    let told = then one (content_due one 1 (Some (codes "B"))) in
+    let hidden = then told (ignored_due told 1 true) in
+    then hidden (name_due hidden (codes "f"))
+
+abbrev built : Parts → Made
+built base = added (added (added (listed base) 1 4 1 0 0 None) 0 0 0 2 1 (Some 0)) 1 4 0 5 0 None
+
+numbers : (base : Parts) → sourced (listed base) a_ts ≡ listed base
+numbers base = refl
+
+mappings : (base : Parts) → mappings_text (listing_made (built base)).tokens ≡ codes "AAECA;ICFD,ADKA"
+unfolding digit_byte shortest_digits spelling mappings_text
+mappings base = refl
+
+record_built : (base : Parts) → record_of (map_made (built base)) ≡ labelled (codes "out.js")
+    (a_ts ∷ with_content (codes "b.ts") (codes "B") true ∷ [])
+    (mapped 0 0 (named a_ts 2 1 (codes "f"))
+    ∷ mapped 1 4 (at (with_content (codes "b.ts") (codes "B") true) 0 0) ∷ mapped 1 4 (at a_ts 5 0) ∷ [])
+unfolding distinct
+record_built base = refl
+
+-- ---- a trace by one map after another, and at once
+
+abbrev steps : List Link
+steps = (codes "out.js", says (m_js ∷ []) (mapped 0 0 (at m_js 0 0) ∷ mapped 0 4 (at m_js 1 0) ∷ []))
+    ∷ (codes "m.js", says (a_ts ∷ []) (mapped 0 0 (at a_ts 6 2) ∷ [])) ∷ []
+
+abbrev logged : List ℕ
+logged = codes "    at f (out.js:1:2)\n    at m.js:1:4\n"
+
+-- The last frame leads to where `m.js` has nothing.
+abbrev ends_between : List ℕ
+ends_between = codes "g@out.js:1:5"
+
+one_by_one : in_turn steps false (logged ++ ends_between)
+    ≡ codes "    at f (a.ts:7:3)\n    at a.ts:7:3\ng@m.js:2:1"
+unfolding digits frame_of
+one_by_one = refl
+
+all_at_once : translation (closed steps) false (logged ++ ends_between)
+    ≡ codes "    at f (a.ts:7:3)\n    at a.ts:7:3\ng@out.js:1:5"
+unfolding digits frame_of
+all_at_once = refl

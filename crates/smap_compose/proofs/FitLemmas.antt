@@ -59,7 +59,7 @@ found_step P None m true h p = p
 found_step P None m false h p = tt
 found_step P (Some n) m b h p = h
 
-found_has : (P : Mapping → Type 0) (ms : List Mapping) (line column : ℕ) → AllByRecursion P ms
+pub found_has : (P : Mapping → Type 0) (ms : List Mapping) (line column : ℕ) → AllByRecursion P ms
     → IfSome (mapping_at ms line column) P
 found_has P [] line column all = tt
 found_has P (m ∷ ms) line column all = found_step P (mapping_at ms line column) m (is_within line column m)

@@ -110,7 +110,7 @@ record_is labels sources rs names tokens ms once are =
     let same = are.same in
     (λ i. record { labels = labels; sources = once i; mappings = same i })
 
-under_none : (es : List Entry) → map (under false) es ≡ es
+pub under_none : (es : List Entry) → map (under false) es ≡ es
 under_none [] = refl
 under_none (e ∷ es) = ap (λ (xs : List Entry). e ∷ xs) (under_none es)
 

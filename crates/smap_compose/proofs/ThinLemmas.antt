@@ -48,7 +48,7 @@ rises_on (Some p) m (n ∷ ns) f r =
 abbrev original : Option Mapping → Option Origin
 original found = option_and_then (λ (m : Mapping). m.origin) found
 
-or_or : (a b c : Option Mapping) → option_or (option_or a b) c ≡ option_or a (option_or b c)
+pub or_or : (a b c : Option Mapping) → option_or (option_or a b) c ≡ option_or a (option_or b c)
 or_or None b c = refl
 or_or (Some a) b c = refl
 
@@ -158,7 +158,7 @@ module _ (line column : ℕ) where
   thin_found (m ∷ ms) last found r s =
       thin_step last found m ms (is_spare last m ms) (thin_found ms) refl r.0 r.1 s
 
-or_none : (a : Option Mapping) → option_or a None ≡ a
+pub or_none : {A : Type 0} (a : Option A) → option_or a None ≡ a
 or_none None = refl
 or_none (Some a) = refl
 

@@ -11,4 +11,5 @@ pub mod Laws
 pub mod Numbered
 pub mod Standing
 pub mod Thinning
+pub mod TraceLaws
 pub mod Using

@@ -141,7 +141,8 @@ impl Builder {
     ///
     /// `Source`.
     pub fn set_ignored(&mut self, number: u32, ignored: bool) -> Result<(), BuildError>
-        ensures { Does result self.old self.new (ignored_due self.old number ignored) }
+        ensures sets { Does result self.old self.new (ignored_due self.old number ignored) }
+        ensures certain { result ≢ Err errors.Memory }
     {
         set_ignored(&mut self.sources, number, ignored)
     }

@@ -1,5 +1,5 @@
 //! One map out of a chain of maps: where a map's source was generated itself and has a map, its originals are
-//! followed into that map's sources.
+//! followed into that map's sources. And [`Builder`], by which a map is built call by call.
 //!
 //! Nothing is dropped, merged or extended: the composition has the mappings of the outer map at their
 //! positions, and a lookup in it is one lookup after the other, at every line and column.

@@ -1,7 +1,8 @@
 //! The sources and the names of a map that is built. Each is kept once, in a hashed table, and its number is
 //! its index there.
-ghost use Rattle.std.specs.Prelude.{◌≡◌, ◌≤◌, IfOk, length, map as mapped};
+ghost use Rattle.std.specs.Prelude.{◌≡◌, ◌≢◌, ◌≤◌, Err, IfOk, length, map as mapped};
 ghost use Rattle.std.specs.Prelude.{option_copied, option_map, string_bytes};
+ghost use Rattle.smap_compose.specs.declared.error.BuildError.TheVariants as errors;
 ghost use Rattle.smap_compose.specs.Building.{Does, changed, with_name, with_url};
 ghost use Rattle.smap_compose.specs.Built.{entries_of};
 
@@ -104,8 +105,9 @@ pub(crate) fn set_ignored(
     number: u32,
     ignored: bool,
 ) -> Result<(), BuildError>
-    ensures { Does result (entries_of sources.old.entries) (entries_of sources.new.entries)
+    ensures sets { Does result (entries_of sources.old.entries) (entries_of sources.new.entries)
         (changed (λ e. record e { ignored = ignored }) number (entries_of sources.old.entries)) }
+    ensures certain { result ≢ Err errors.Memory }
 {
     match sources.get_index_mut(number as usize) {
         Some(details) => {

@@ -27,7 +27,10 @@ fn mapping(generated: (u32, u32), source: u32, place: (u32, u32), name: Option<u
 }
 
 /// What the builder is told of its sources and its name; the numbers that it gives.
-fn with_sources(rt: &(impl Abort + AllocGlobal), builder: &mut Builder) -> Result<[u32; 4], BuildError> {
+fn with_sources(
+    rt: &(impl Abort + AllocGlobal),
+    builder: &mut Builder,
+) -> Result<[u32; 4], BuildError> {
     let alloc = rt.alloc();
     let first = builder.source(alloc, Some("a.ts"))?;
     let second = builder.source(alloc, Some("b.ts"))?;
@@ -38,14 +41,17 @@ fn with_sources(rt: &(impl Abort + AllocGlobal), builder: &mut Builder) -> Resul
     Ok([first, second, again, name])
 }
 
-/// Builds the map, whose mappings are added last to first.
+/// Builds the map, whose mappings aren't added in their order.
 fn build(rt: &(impl Abort + AllocGlobal), mut builder: Builder) -> Result<SourceMap, BuildError> {
     builder.set_file(rt.alloc(), Some("out.js"))?;
     let numbers = with_sources(rt, &mut builder)?;
     equal(rt, "numbers", numbers, [0, 1, 0, 0]);
     builder.add(mapping((1, 4), 1, (0, 0), None))?;
-    builder.add(mapping((0, 0), 0, (2, 1), Some(0)))?;
-    builder.add(mapping((1, 4), 0, (5, 0), None))?;
+    let others = [
+        mapping((0, 0), 0, (2, 1), Some(0)),
+        mapping((1, 4), 0, (5, 0), None),
+    ];
+    equal(rt, "others", builder.add_all(&others), Ok(()));
     Ok(builder.finish(rt.alloc())?)
 }
 
@@ -75,10 +81,13 @@ fn are_refused(rt: &(impl Abort + AllocGlobal), builder: &mut Builder) {
     equal(rt, "second name", second, Err(BuildError::TooMany));
 }
 
-/// Asserts why a mapping isn't added.
+/// Asserts why a mapping isn't added, and that it keeps one before it from being added with it.
 fn is_refused(rt: &impl Abort, builder: &mut Builder, token: Token, kind: SegmentKind) {
     equal(rt, token, builder.fault_of(token), Some(kind));
-    equal(rt, token, builder.add(token), Err(BuildError::Mapping(kind)));
+    let fault = BuildError::Mapping(kind);
+    equal(rt, token, builder.add(token), Err(fault));
+    let both = [mapping((0, 0), 0, (0, 0), None), token];
+    equal(rt, token, builder.add_all(&both), Err((1, fault)));
 }
 
 #[test]
@@ -90,10 +99,27 @@ fn each_fault_is_told(rt: HostRuntime) {
         ((2, 0), 1, (0, 0), None, SegmentKind::GeneratedLine),
         ((1, 1 << 31), 1, (0, 0), None, SegmentKind::Column),
         ((1, 0), 1, (1 << 31, 0), None, SegmentKind::Source),
-        ((1, 0), 0, (1 << 31, 1 << 31), None, SegmentKind::OriginalLine),
-        ((1, 0), 0, (0, 1 << 31), Some(1), SegmentKind::OriginalColumn),
+        (
+            (1, 0),
+            0,
+            (1 << 31, 1 << 31),
+            None,
+            SegmentKind::OriginalLine,
+        ),
+        (
+            (1, 0),
+            0,
+            (0, 1 << 31),
+            Some(1),
+            SegmentKind::OriginalColumn,
+        ),
         ((1, 0), 0, (0, 0), Some(1), SegmentKind::Name),
     ] {
-        is_refused(&rt, &mut builder, mapping(generated, source, place, name), kind);
+        is_refused(
+            &rt,
+            &mut builder,
+            mapping(generated, source, place, name),
+            kind,
+        );
     }
 }

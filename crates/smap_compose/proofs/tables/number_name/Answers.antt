@@ -1,7 +1,8 @@
 use Rattle.std.proofs.Common.{◌∙◌, ap, is_some, arith, map, refl, sym, string_bytes}
 use Rattle.std.specs.Prelude.{bytes_eq}
 use Rattle.std.proofs.lemmas.List.{length-map}
-use Rattle.smap_compose.proofs.TableLemmas.{numbered_full, numbered_last, numbered_there, text_last, text_place}
+use Rattle.smap_compose.proofs.TableLemmas.{numbered_full, numbered_last, numbered_there}
+use Rattle.smap_compose.proofs.TableLemmas.{text_last, text_place}
 use Rattle.smap_compose.proofs.tables.number_name.Goals as goal
 
 pub returns-in-Some : goal.returns-in-Some
