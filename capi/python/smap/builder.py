@@ -26,8 +26,7 @@ class Builder(Owner):
     generated lines it may have; 0 stands for 16777216. Raises Error where `base` is no URL or a limit is too
     large, and ValueError where a limit is below 0.
 
-    A call that raises leaves the builder as it was, but for one that runs out of memory while it adds
-    mappings.
+    A call that raises leaves the builder as it was, unless memory ran out.
     """
 
     _free = lib.smap_builder_close
@@ -114,7 +113,7 @@ class Builder(Owner):
         check(code)
 
     def finish(self) -> Map:
-        """The map. Its mappings are sorted by generated line and column. The builder is closed then."""
+        """The map. Its mappings are sorted by generated line and column. The builder is closed by it."""
         made = Map()
         check(self._call(lib.smap_builder_finish, byref(made._handle)))
         return made

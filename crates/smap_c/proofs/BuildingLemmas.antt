@@ -1,8 +1,8 @@
 -- Texts that are not UTF-8, and one mapping more that a builder has.
-use Rattle.std.specs.Prelude.{Bool, IsUtf8, true}
-use Rattle.smap_c.specs.Building.{IsText, text_if}
 use Rattle.std.proofs.Common.{◌≡◌, ◌∙◌, ℕ, ◌+◌, ◌<◌, List, ◌∷◌, ◌++◌, [], length, map, take, get_or}
-use Rattle.std.proofs.Common.{Option, Some, None, Result, Ok, Err, ap, append_assoc, arith, false, sym, true≢false}
+use Rattle.std.proofs.Common.{Option, Some, None, Result, Ok, Err, false, ap, append_assoc, arith, sym}
+use Rattle.std.proofs.Common.{true≢false}
+use Rattle.std.specs.Prelude.{Bool, IsUtf8, true}
 use Rattle.std.proofs.lemmas.List.{get_or-map, length-map, take_more}
 use Rattle.std.specs.Option.{option_map_or}
 use Rattle.std.specs.Result.{is_err}
@@ -14,6 +14,7 @@ use Rattle.smap_compose.specs.declared.error.BuildError.{BuildError}
 use Rattle.smap_compose.specs.declared.error.BuildError.TheVariants as errors
 use Rattle.smap_c_answers.specs.Spelling.{token_of}
 use Rattle.smap_c_answers.specs.declared.spelling.MappingNumbers.{MappingNumbers}
+use Rattle.smap_c.specs.Building.{IsText, text_if}
 
 -- a text that isn't missing, and not UTF-8
 pub not_text : (has : Bool) (text : List ℕ) → has ≡ true → (IsUtf8 text → ⊥) → IsText (text_if has text) → ⊥

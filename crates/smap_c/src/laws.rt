@@ -1,8 +1,8 @@
 //! What holds of the structs that cross to C, and of calls as they were in version 0.1.
 ghost use Rattle.std.specs.Prelude.{false, true};
 ghost use Rattle.smap_c.specs.Order.{BuilderOrder, BytesOrder, CountsOrder, FaultOrder, FrameOrder};
-ghost use Rattle.smap_c.specs.Order.{LimitsOrder, ListedOrder, MapOrder, MappingOrder, NumbersOrder, OwnerOrder};
-ghost use Rattle.smap_c.specs.Order.{ScriptsOrder, TraceCountsOrder};
+ghost use Rattle.smap_c.specs.Order.{LimitsOrder, ListedOrder, MapOrder, MappingOrder, NumbersOrder};
+ghost use Rattle.smap_c.specs.Order.{OwnerOrder, ScriptsOrder, TraceCountsOrder};
 ghost use Rattle.smap_c.specs.Traces.{AsksByBool};
 
 /// The fields of each struct lie in the order in which C declares them.
