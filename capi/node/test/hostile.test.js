@@ -17,7 +17,8 @@ const builder = () => native.builderOpen(BASE, 0, 0);
 test('the addon is given anything', () => {
   const words = () => [
     undefined, null, true, 0, -1, 2 ** 32, NaN, '', 'x'.repeat(5000), Symbol('x'), 1n, {}, [], () => 0, map(),
-    native.scripts(), builder(), Buffer.alloc(3), new Int32Array(6), new Float64Array(6), new SharedArrayBuffer(4),
+    native.scripts(), builder(), Buffer.alloc(3), new Int32Array(6), new Float64Array(6),
+    new SharedArrayBuffer(4),
   ];
   const rest = [[], [0, 0], [Buffer.alloc(1), 0], ['x', true]];
   let thrown = 0;
