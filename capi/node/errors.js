@@ -20,7 +20,7 @@ Object.defineProperty(SmapError.prototype, 'name', {
   value: 'SmapError', configurable: true, writable: true,
 });
 
-/** The error that says which mapping has numbers that no mapping has there. */
+/** What is thrown where the mapping with this index has a number out of range. */
 const wrongMapping = i =>
   new SmapError('SMAP_RANGE', `mapping ${i}: number out of range`, null, null, null, i);
 
