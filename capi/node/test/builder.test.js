@@ -83,7 +83,10 @@ test('a source and a name have one number, and keep what was given last', () => 
   builder.setFile('x');
   builder.setFile(Buffer.from('y'));
   builder.setFile(null);
-  assert.deepEqual(flat(builder), { version: 3, ...empty, mappings: '', ignoreList: [0],
+  // the numbers that were given out before are still known
+  assert.deepEqual([builder.source('a.ts'), builder.name('f')], [0, 0]);
+  builder.add(0, 0, 2, 0, 0, 2);
+  assert.deepEqual(flat(builder), { version: 3, ...empty, mappings: 'AEAAE', ignoreList: [0],
     sourcesContent: ['A', null, '\u00e9'.repeat(3000)] });
   assert.deepEqual(flat(new Builder(BASE)), { version: 3, sources: [], names: [], mappings: '' });
 });

@@ -26,8 +26,14 @@ function build() {
   builder.setFile(long);
   const source = builder.source(long, { content: long, ignored: true });
   builder.add(0, 1, source, 2, 0, builder.name(long));
-  builder.addAll([0, 0, none, none, none, none]);
-  const made = builder.finish();
+  let made;
+  try {
+    builder.addAll([0, 0, none, none, none, none]);
+    made = builder.finish();
+  } finally {
+    // also where memory ended
+    assert.throws(() => builder.add(0, 0), { code: 'SMAP_CLOSED' });
+  }
   assert.equal(made.canonicalMappings(), 'A,CAEAA');
   made.close();
 }
