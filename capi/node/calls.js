@@ -15,7 +15,7 @@ const ASKING = ['out', 'code', 'held', 'same', 'count', 'lookup', 'listed_at', '
   'is_ignored'];
 const WRITTEN = ['canonical', 'canonicalRelative', 'canonicalMappings', 'flatten'];
 
-// What index.js gets for a map, and for scripts.
+// What index.js gets for a map, for scripts, and for a builder.
 class Handle {
   constructor(at, held) {
     this.at = at;
@@ -26,6 +26,7 @@ class MapHandle extends Handle {}
 class ScriptsHandle extends Handle {
   isClosed = false;
 }
+class BuilderHandle extends Handle {}
 
 const coded = (error, code) => Object.assign(error, { code });
 
@@ -49,15 +50,14 @@ function words(given) {
   throw new TypeError('not an array of numbers of 32 bits');
 }
 
-function mapOf(given) {
-  if (given instanceof MapHandle) return given.at;
-  throw new TypeError('not a source map');
+function handleOf(given, kind, none) {
+  if (given instanceof kind) return given;
+  throw new TypeError(none);
 }
 
-function scriptsOf(given) {
-  if (given instanceof ScriptsHandle) return given;
-  throw new TypeError('not scripts');
-}
+const mapOf = given => handleOf(given, MapHandle, 'not a source map').at;
+const scriptsOf = given => handleOf(given, ScriptsHandle, 'not scripts');
+const builderOf = given => handleOf(given, BuilderHandle, 'not a builder').at;
 
 /** The calls, over one copy of the module and its memory. */
 function callsOf(x, host) {
@@ -165,6 +165,20 @@ function callsOf(x, host) {
     }
   }
 
+  // The same with numbers of mappings. Gives the index of the first mapping that is wrong, if one is.
+  function withMappings(numbers, run) {
+    const n = words(numbers).length, room = block(4 * n + 4);
+    let code;
+    try {
+      new Uint32Array(x.memory.buffer, room, n).set(numbers);
+      code = run(room, Math.floor(n / 6));
+    } finally {
+      if (!isBroken) call.free(room);
+    }
+    if (code === RANGE) return f64(COUNTS);
+    check(code);
+  }
+
   // ---- answers
 
   function fail(code) {
@@ -206,11 +220,13 @@ function callsOf(x, host) {
     call.free(box);
   });
 
-  function mapOut(box) {
-    const handle = new MapHandle(box, call.held(box));
-    forgotten.register(handle, { box, close: call.close });
+  function out(handle, close) {
+    forgotten.register(handle, { box: handle.at, close });
     return handle;
   }
+
+  const mapOut = box => out(new MapHandle(box, call.held(box)), call.close);
+  const builderOut = box => out(new BuilderHandle(box, 0), call.builder_close);
 
   // ---- maps
 
@@ -232,21 +248,14 @@ function callsOf(x, host) {
   native.open = (text, url, items, lines, urlBytes, word) => {
     const most = urlBytes === undefined ? -1 : Math.trunc(number(urlBytes)) || 0;
     const limits = [number(items), number(lines), most];
-    const box = block(HANDLE);
-    let isOpen = false;
-    try {
-      check(withTexts([text, url], (...held) => call.open(box, ...held, ...limits)));
-      isOpen = true;
-    } finally {
-      if (!isOpen && !isBroken) call.free(box);
-    }
+    const map = made(box => withTexts([text, url], (...held) => call.open(box, ...held, ...limits)));
     const isKnown = typeof text === 'string' && typeof word === 'string' && !text.includes('\0');
     if (word !== undefined) found[0] = !isKnown || text.includes(word) ? 1 : 0;
-    return mapOut(box);
+    return map;
   };
 
-  // The map that a call makes.
-  function made(run) {
+  // The map, or the builder, that a call makes.
+  function made(run, handed = mapOut) {
     const box = block(HANDLE);
     let isOpen = false;
     try {
@@ -255,18 +264,16 @@ function callsOf(x, host) {
     } finally {
       if (!isOpen && !isBroken) call.free(box);
     }
-    return mapOut(box);
+    return handed(box);
   }
 
-  native.thin = map => {
-    const from = mapOf(map);
-    return made(box => call.thin(from, box));
+  const madeOf = (it, boxOf = mapOf) => given => {
+    const from = boxOf(given);
+    return made(box => it(from, box));
   };
 
-  native.onlyUsed = map => {
-    const from = mapOf(map);
-    return made(box => call.only_used(from, box));
-  };
+  native.thin = madeOf(call.thin);
+  native.onlyUsed = madeOf(call.only_used);
 
   native.compose = (map, maps, leads, items) => {
     const outer = mapOf(map), inner = maps.map(mapOf), most = number(items), n = inner.length;
@@ -303,10 +310,8 @@ function callsOf(x, host) {
   let lastShared = 0;
 
   native.share = map => {
-    const from = mapOf(map), box = block(HANDLE), code = call.share(from, box);
-    if (code !== OK) call.free(box);
-    check(code);
-    shared.set(++lastShared, box);
+    const from = mapOf(map);
+    shared.set(++lastShared, made(box => call.share(from, box), box => box));
     return lastShared;
   };
 
@@ -388,28 +393,52 @@ function callsOf(x, host) {
   };
 
   // A string, or the index of the first mapping that is wrong.
-  native.spell = numbers => {
-    const n = words(numbers).length, room = block(4 * n + 4);
-    let code;
-    try {
-      new Uint32Array(x.memory.buffer, room, n).set(numbers);
-      code = call.spell(room, Math.floor(n / 6));
-    } finally {
-      if (!isBroken) call.free(room);
-    }
-    if (code === RANGE) return f64(COUNTS);
-    check(code);
-    return told(string);
+  native.spell = numbers => withMappings(numbers, call.spell) ?? told(string);
+
+  // ---- maps that are built
+
+  native.builderOpen = (url, items, lines) => {
+    const limits = [number(items), number(lines)];
+    const open = box => withTexts([url], (...held) => call.builder_open(box, ...held, ...limits));
+    return made(open, builderOut);
   };
+
+  native.builderClose = builder => call.builder_close(builderOf(builder));
+
+  // Gives a builder a text, or null: whether it isn't null comes before it.
+  function build(it, builder, text, ...more) {
+    const box = builderOf(builder), has = text === null ? 0 : 1;
+    check(withTexts([has ? text : ''], (...held) => it(box, ...more, has, ...held)));
+  }
+
+  native.builderFile = (builder, file) => build(call.builder_file, builder, file);
+  native.builderContent = (builder, source, content) =>
+    build(call.builder_content, builder, content, number(source));
+
+  native.builderSource = (builder, url) => {
+    build(call.builder_source, builder, url);
+    return u32(YES);
+  };
+
+  native.builderIgnore = (builder, source, isIgnored) =>
+    check(call.builder_ignore(builderOf(builder), number(source), flag(isIgnored) ? 1 : 0));
+
+  native.builderName = (builder, name) => {
+    const box = builderOf(builder);
+    check(withTexts([name], (...held) => call.builder_name(box, ...held)));
+    return u32(YES);
+  };
+
+  native.builderAdd = (builder, numbers) => {
+    const box = builderOf(builder);
+    return withMappings(numbers, (...held) => call.builder_add(box, ...held));
+  };
+
+  native.builderFinish = madeOf(call.builder_finish, builderOf);
 
   // ---- traces
 
-  native.scripts = () => {
-    const box = block(HANDLE);
-    const handle = new ScriptsHandle(box, 0);
-    forgotten.register(handle, { box, close: call.close_scripts });
-    return handle;
-  };
+  native.scripts = () => out(new ScriptsHandle(block(HANDLE), 0), call.close_scripts);
 
   native.addScript = (scripts, url, map, gone) => {
     const into = scriptsOf(scripts), from = mapOf(map);

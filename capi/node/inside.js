@@ -1,6 +1,7 @@
 'use strict';
 // What index.js lends to the layers, and to nobody else:
 //
+//     mapOf(handle)                the map of a handle
 //     open(text, url, word)        a map, and whether its text may have a word in it
 //     scriptsOf(url, map)          scripts of one whose map stays open as long
 //     listedAt(map, line, column)  whether a mapping is at a position, or else before it on the line. Of

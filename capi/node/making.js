@@ -2,25 +2,13 @@
 // What the layers that make maps have in common: numbers that users pass, strings by number, and mappings,
 // which libsmap puts in order and spells.
 const { spell } = require('./index.js');
+const { MOST, MOST_LINES, counted } = require('./inputs.js');
 const { NONE } = require('./inside.js');
 
 // How many numbers a mapping has: generated line and column, source, original line and column, name.
 const WIDTH = 6;
 
-// A map has no more lines and columns. libsmap would say so only when it spells the mappings.
-const MOST = 2 ** 31;
-const MOST_LINES = 2 ** 24;
-
-const isIn = (n, first, most) => Number.isInteger(n) && n >= first && n - first < most;
-
-/** A number that a user passes by a name, and that counts from `first`, as one from 0. */
-function counted(n, name, first = 0, most = MOST) {
-  if (isIn(n, first, most)) return n - first;
-  const shown = typeof n === 'number' ? n : typeof n;
-  throw new RangeError(`${name} must be a whole number from ${first} to ${first + most - 1}, not ${shown}`);
-}
-
-/** The same for a generated line. */
+/** `counted` for a generated line. */
 const countedLine = (n, name, first = 0) => counted(n, name, first, MOST_LINES);
 
 /** Strings, each with a number: where it stands first. */

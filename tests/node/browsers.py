@@ -22,6 +22,7 @@ ANSWER = {
     "bytes": True,
     "log": ["@http://h/a.js:11:3", 1, True],
     "later": True,
+    "built": "IACE",
     "links": ["a.map", "http://h/a/c.map", "{}", "file:///C:/a.js", "/a b.js", True],
     "frame": {"url": "http://h/\u00e4.js", "line": 1, "column": 2},
     "refused": "SMAP_REFUSED",

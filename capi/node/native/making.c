@@ -1,8 +1,7 @@
 /* Maps that are made of maps. */
 #include "smap_node.h"
 
-/* A handle of the map that was made; or throws, and frees it. */
-static napi_value made_out(napi_env env, boxed_map *made, uint32_t code)
+napi_value made_out(napi_env env, boxed_map *made, uint32_t code)
 {
     if (code == SMAP_OK) return map_out(env, made, (int64_t)held_by(&made->map));
     free(made);

@@ -5,12 +5,17 @@
 
 /* ---- handles */
 
-boxed_map *map_of(napi_env env, napi_value value)
+void *boxed_of(napi_env env, napi_value value, uint32_t tag, const char *none)
 {
     void *at = NULL;
-    if (napi_get_value_external(env, value, &at) == napi_ok && at && *(uint32_t *)at == MAP_TAG) return at;
-    napi_throw_type_error(env, NULL, "not a source map");
+    if (napi_get_value_external(env, value, &at) == napi_ok && at && *(uint32_t *)at == tag) return at;
+    napi_throw_type_error(env, NULL, none);
     return NULL;
+}
+
+boxed_map *map_of(napi_env env, napi_value value)
+{
+    return boxed_of(env, value, MAP_TAG, "not a source map");
 }
 
 boxed_map *new_map(void)

@@ -63,7 +63,8 @@ static const call module_calls[] = {
 };
 
 static const call *const tables[] = {
-    module_calls, map_calls, later_calls, making_calls, question_calls, getter_calls, trace_calls, link_calls,
+    module_calls, map_calls, later_calls, making_calls, building_calls, question_calls, getter_calls,
+    trace_calls, link_calls,
 #ifdef SMAP_NODE_TEST
     test_calls,
 #endif

@@ -107,17 +107,6 @@ static napi_value do_texts(napi_env env, napi_callback_info info)
 
 /* ---- numbers, into arrays that index.js made: there is no memory to be had here */
 
-/* The numbers of a typed array, of 32 bits each. False if it is none, and an exception is pending. */
-static bool words_of(napi_env env, napi_value value, uint32_t **at, size_t *len)
-{
-    napi_typedarray_type type;
-    if (napi_get_typedarray_info(env, value, &type, len, (void **)at, NULL, NULL) == napi_ok &&
-        (type == napi_uint32_array || type == napi_int32_array) && (*at || !*len))
-        return true;
-    napi_throw_type_error(env, NULL, "not an array of numbers of 32 bits");
-    return false;
-}
-
 /* flags(map, which, to): a number for each source or listed source: 0, whether it is ignored; 1, which source
  * the listed one is */
 static napi_value do_flags(napi_env env, napi_callback_info info)

@@ -30,8 +30,8 @@ typedef struct thread_data {
     napi_ref witness; /* a weak reference to an object that nothing else has: the next collection takes it */
 } thread_data;
 
-/* What a handle of index.js points to. The tag comes first, so that neither kind is taken for the other. */
-enum { MAP_TAG = 0x70616d73, SCRIPTS_TAG = 0x72637373 };
+/* What a handle of index.js points to. The tag comes first, so that no kind is taken for another. */
+enum { MAP_TAG = 0x70616d73, SCRIPTS_TAG = 0x72637373, BUILDER_TAG = 0x6c646273 };
 
 struct boxed_map {
     uint32_t tag;
@@ -96,6 +96,9 @@ napi_value buffer_out(napi_env env, const void *at, size_t len);
 /* A string or a Buffer, or throws. The bytes are freed. */
 napi_value bytes_out(napi_env env, smap_bytes *bytes, bool as_buffer);
 
+/* The numbers of a typed array, of 32 bits each. False if it is none, and an exception is pending. */
+bool words_of(napi_env env, napi_value value, uint32_t **at, size_t *len);
+
 /* An array of these numbers, or throws. */
 napi_value numbers_out(napi_env env, const uint64_t *numbers, uint32_t count);
 
@@ -108,6 +111,9 @@ typedef struct named_number {
 napi_value object_out(napi_env env, const named_number *numbers, size_t count);
 
 /* ---- maps.c */
+
+/* What a handle points to that has this tag, or throws that it is none. */
+void *boxed_of(napi_env env, napi_value value, uint32_t tag, const char *none);
 
 /* The map or the scripts of a handle, or throws. */
 boxed_map *map_of(napi_env env, napi_value value);
@@ -139,6 +145,11 @@ void tell_held(napi_env env, int64_t more);
     boxed_map *boxed = map_of(env, w[0]);                                                                    \
     if (!boxed) return NULL
 
+/* ---- making.c */
+
+/* A handle of the map that was made; or throws, and frees it. */
+napi_value made_out(napi_env env, boxed_map *made, uint32_t code);
+
 /* ---- questions.c */
 
 /* A string or a Buffer of what a call writes: the arguments are a map and whether a Buffer is wanted. */
@@ -164,8 +175,8 @@ typedef struct call {
 } call;
 
 /* Those of a file, which end with one that has no name. */
-extern const call map_calls[], later_calls[], making_calls[], question_calls[], getter_calls[], trace_calls[];
-extern const call link_calls[];
+extern const call map_calls[], later_calls[], making_calls[], building_calls[], question_calls[];
+extern const call getter_calls[], trace_calls[], link_calls[];
 #ifdef SMAP_NODE_TEST
 extern const call test_calls[];
 #endif

@@ -1,4 +1,4 @@
-/* Texts that come in and go out. */
+/* Texts and numbers that come in and go out. */
 #include "smap_node.h"
 
 bool text_of(napi_env env, napi_value value, text_in *text)
@@ -96,6 +96,16 @@ napi_value bytes_out(napi_env env, smap_bytes *bytes, bool as_buffer)
     out = as_buffer ? buffer_out(env, at, len) : string_out(env, (const char *)at, len);
     smap_bytes_free(bytes);
     return out;
+}
+
+bool words_of(napi_env env, napi_value value, uint32_t **at, size_t *len)
+{
+    napi_typedarray_type type;
+    if (napi_get_typedarray_info(env, value, &type, len, (void **)at, NULL, NULL) == napi_ok &&
+        (type == napi_uint32_array || type == napi_int32_array) && (*at || !*len))
+        return true;
+    napi_throw_type_error(env, NULL, "not an array of numbers of 32 bits");
+    return false;
 }
 
 napi_value numbers_out(napi_env env, const uint64_t *numbers, uint32_t count)

@@ -3,11 +3,7 @@
 
 boxed_scripts *scripts_of(napi_env env, napi_value value)
 {
-    void *at = NULL;
-    if (napi_get_value_external(env, value, &at) == napi_ok && at && *(uint32_t *)at == SCRIPTS_TAG)
-        return at;
-    napi_throw_type_error(env, NULL, "not scripts");
-    return NULL;
+    return boxed_of(env, value, SCRIPTS_TAG, "not scripts");
 }
 
 static void free_scripts(napi_env env, void *at, void *hint)

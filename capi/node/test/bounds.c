@@ -70,6 +70,32 @@ uint32_t __wrap_smap_spell_strict(const uint32_t *numbers, size_t mappings, smap
     return code;
 }
 
+uint32_t __real_smap_builder_content_strict(smap_builder *builder, uint32_t source, bool has_content,
+                                            const char *content, size_t len);
+uint32_t __wrap_smap_builder_content_strict(smap_builder *builder, uint32_t source, bool has_content,
+                                            const char *content, size_t len);
+
+uint32_t __wrap_smap_builder_content_strict(smap_builder *builder, uint32_t source, bool has_content,
+                                            const char *content, size_t len)
+{
+    read_all(content, len);
+    return __real_smap_builder_content_strict(builder, source, has_content, content, len);
+}
+
+uint32_t __real_smap_builder_add_strict(smap_builder *builder, const uint32_t *numbers, size_t mappings,
+                                        size_t *wrong);
+uint32_t __wrap_smap_builder_add_strict(smap_builder *builder, const uint32_t *numbers, size_t mappings,
+                                        size_t *wrong);
+
+uint32_t __wrap_smap_builder_add_strict(smap_builder *builder, const uint32_t *numbers, size_t mappings,
+                                        size_t *wrong)
+{
+    read_all(numbers, 24 * mappings);
+    uint32_t code = __real_smap_builder_add_strict(builder, numbers, mappings, wrong);
+    read_all(numbers, 24 * mappings);
+    return code;
+}
+
 uint32_t __real_smap_frame_strict(const void *line, size_t len, smap_frame_parts *out);
 uint32_t __wrap_smap_frame_strict(const void *line, size_t len, smap_frame_parts *out);
 

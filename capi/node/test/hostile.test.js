@@ -12,11 +12,13 @@ const native = require('../native.js');
 const BASE = 'http://h/m/out.js.map';
 const text = '{"version":3,"sources":["a.js"],"names":["n"],"mappings":"AAUE,IAEAA"}';
 const map = () => native.open(Buffer.from(text), BASE, 0, 0);
+const builder = () => native.builderOpen(BASE, 0, 0);
 
 test('the addon is given anything', () => {
   const words = () => [
     undefined, null, true, 0, -1, 2 ** 32, NaN, '', 'x'.repeat(5000), Symbol('x'), 1n, {}, [], () => 0, map(),
-    native.scripts(), Buffer.alloc(3), new Int32Array(6), new Float64Array(6), new SharedArrayBuffer(4),
+    native.scripts(), builder(), Buffer.alloc(3), new Int32Array(6), new Float64Array(6),
+    new SharedArrayBuffer(4),
   ];
   const rest = [[], [0, 0], [Buffer.alloc(1), 0], ['x', true]];
   let thrown = 0;
@@ -40,10 +42,12 @@ test('the addon is given anything', () => {
   assert.throws(() => native.start(Error, () => 0), { code: 'SMAP_INTERNAL' });
 });
 
-test('one kind of handle is not taken for the other', () => {
+test('one kind of handle is not taken for another', () => {
   assert.throws(() => native.lookup(native.scripts(), 0, 0), TypeError);
   assert.throws(() => native.translate(map(), 'x', 0, false), TypeError);
   assert.throws(() => native.addScript(native.scripts(), 'x', native.scripts()), TypeError);
+  assert.throws(() => native.builderFinish(map()), TypeError);
+  assert.throws(() => native.close(builder()), TypeError);
   assert.throws(() => SourceMap.prototype.lookup.call({}, 0, 0), TypeError);
   assert.throws(() => Scripts.prototype.translate.call(new SourceMap(text, BASE), ''), TypeError);
 });

@@ -1,7 +1,7 @@
 'use strict';
 const assert = require('node:assert');
 const { test } = require('node:test');
-const { SourceMap, Scripts } = require('smap');
+const { SourceMap, Builder, Scripts } = require('smap');
 const native = require('../native.js');
 
 const BASE = 'http://h/m/out.js.map';
@@ -114,6 +114,44 @@ test('the collector is told what scripts hold, once a map by itself is closed to
   await isNear(0, 'closed');
   assert.throws(() => scripts.add('http://h/a.js', small), { code: 'SMAP_CLOSED' });
   await isNear(0, 'a closed one takes nothing');
+});
+
+// Mappings without an original.
+const many = new Uint32Array(6 * 200000).map((_, i) => (i % 6 ? (i % 6 === 1 ? i : 2 ** 32 - 1) : 0));
+
+test('builders that are forgotten, closed, finished or refused leave nothing', collects, async () => {
+  const content = 'x'.repeat(1e6);
+  const ends = [() => 0, b => b.close(), b => b.finish(), b => b.finish().close(),
+    b => assert.throws(() => b.addAll([...many.subarray(0, 600), 2 ** 24, 0, 0, 0, 0, 0]), { number: 100 })];
+  const grown = await growth(15, i => {
+    const builder = new Builder(BASE);
+    builder.source('a', { content });
+    builder.addAll(many);
+    for (let k = 0; k < 2000; k++) builder.add(0, k);
+    ends[i % ends.length](builder);
+  });
+  assert.ok(grown < 30, `${grown} MB`);
+});
+
+test('the collector is told what a builder was given, until it is closed or finished', tells, async () => {
+  const content = 'x'.repeat(1e6);
+  const before = await told();
+  const isNear = async (wants, why) => {
+    const has = (await told()) - before;
+    assert.ok(Math.abs(has - wants) < 2e5, `${why}: ${has}, not ${wants}`);
+  };
+  const builder = new Builder(BASE), closed = new Builder(BASE);
+  for (let i = 0; i < 3; i++) builder.source('a', { content });
+  await isNear(1e6, 'one content, whichever');
+  builder.addAll(many);
+  await isNear(1e6 + 4 * many.length, 'mappings');
+  closed.addAll(many);
+  closed.close();
+  await isNear(1e6 + 4 * many.length, 'one is closed');
+  const map = builder.finish();
+  await isNear(map.heldBytes, 'the map alone');
+  map.close();
+  await isNear(0, 'closed');
 });
 
 test('Symbol.dispose closes', { skip: Symbol.dispose ? false : 'no Symbol.dispose here' }, () => {

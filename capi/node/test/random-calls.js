@@ -3,7 +3,7 @@
 const assert = require('node:assert');
 const { Worker } = require('node:worker_threads');
 const {
-  SourceMap, Scripts, SmapError, translate, frame, respell, spell,
+  SourceMap, Builder, Scripts, SmapError, translate, frame, respell, spell,
   scriptLink, resolveLink, inlineMap, fileUrl, filePath, scriptUrl, scriptName, normalForm, areAlike,
 } = require('smap');
 const tracing = require('smap/trace-mapping');
@@ -247,6 +247,19 @@ const LINK_CALLS = {
 };
 
 const aMap = () => native.open('{"version":3,"mappings":"A"}', 'http://h/', 0, 0);
+const aBuilder = () => native.builderOpen('http://h/', 0, 0);
+
+const BUILDER_CALLS = {
+  file: (given, builder) => builder.setFile(given.one([null, given.string(), given.value()])),
+  source: (given, builder) => builder.source(given.one([null, given.name(), given.value()]),
+    { content: given.value(), ignored: given.value() }),
+  name: (given, builder) => builder.name(given.one([given.string(), given.value()])),
+  add: (given, builder) => builder.add(...Array.from({ length: 2 + given.next(5) }, () => given.number())),
+  addAll(given, builder) {
+    const all = Array.from({ length: 6 * given.next(4) }, () => (given.next(30) ? 0 : given.number()));
+    builder.addAll(given.next(2) ? all : Uint32Array.from(all, n => Number.isInteger(n) ? n : 0));
+  },
+};
 
 const CALLS_OF = {
   open: given => keep(given, new SourceMap(given.mapIn(), given.url(), usual(given))),
@@ -289,6 +302,13 @@ const CALLS_OF = {
     const text = spell(Uint32Array.from({ length: 6 * given.next(9) }, number));
     assert.equal(respell(text), text);
   },
+  building(given) {
+    const builder = new Builder(given.next(4) ? 'http://h/m' : given.url(), usual(given)?.limits);
+    for (let i = given.next(60); i > 0; i--) {
+      allowed(outcome(() => BUILDER_CALLS[given.one(Object.keys(BUILDER_CALLS))](given, builder)));
+    }
+    keep(given, builder.finish());
+  },
   tracing(given) {
     const map = given.map();
     if (map && given.next(2)) map.mappings = given.decoded();
@@ -327,7 +347,7 @@ const CALLS_OF = {
   native(given) {
     // a number that is taken at random may be one that another thread waits for
     const { start, take, ...calls } = native;
-    const word = () => (given.next(3) ? given.value() : given.one([native.scripts, aMap])());
+    const word = () => (given.next(3) ? given.value() : given.one([native.scripts, aMap, aBuilder])());
     const promise = calls[given.one(Object.keys(calls))](...Array.from({ length: given.next(6) }, word));
     if (promise?.then) given.later.push(promise.catch(allowedOfNative));
   },

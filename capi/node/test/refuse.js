@@ -3,7 +3,7 @@
 // test build of build.sh: see tests/node/run.
 const assert = require('node:assert');
 const {
-  SourceMap, Scripts, translate, frame, respell, spell,
+  SourceMap, Builder, Scripts, translate, frame, respell, spell,
   scriptLink, resolveLink, inlineMap, fileUrl, filePath, scriptUrl, scriptName, normalForm, areAlike,
 } = require('smap');
 const native = require('../native.js');
@@ -21,6 +21,23 @@ const map = new SourceMap(text, BASE);
 const other = new SourceMap(text, BASE);
 const scripts = new Scripts({ [SCRIPT]: map });
 
+function build() {
+  const builder = new Builder(BASE + long);
+  builder.setFile(long);
+  const source = builder.source(long, { content: long, ignored: true });
+  builder.add(0, 1, source, 2, 0, builder.name(long));
+  let made;
+  try {
+    builder.addAll([0, 0, none, none, none, none]);
+    made = builder.finish();
+  } finally {
+    // also where memory ended
+    assert.throws(() => builder.add(0, 0), { code: 'SMAP_CLOSED' });
+  }
+  assert.equal(made.canonicalMappings(), 'A,CAEAA');
+  made.close();
+}
+
 const CALLS = {
   open: () => new SourceMap(text, BASE).close(),
   openBytes: () => new SourceMap(Buffer.from(text), BASE + long).close(),
@@ -29,6 +46,7 @@ const CALLS = {
   compose: () => map.compose({ 'http://h/m/a.js': other }).close(),
   thinned: () => map.thinned().close(),
   used: () => map.used().close(),
+  build,
   same: () => assert.equal(map.same(other), true),
   lookup: () => assert.equal(map.lookup(1, 0).name, long),
   content: () => assert.equal(map.content(1), long),

@@ -1,6 +1,6 @@
 // What the types have to allow, and what they have to refuse.
 import {
-  SourceMap, Scripts, SmapError, translate, frame, respell, spell,
+  SourceMap, Builder, Scripts, SmapError, translate, frame, respell, spell,
   scriptLink, resolveLink, inlineMap, fileUrl, filePath, scriptUrl, scriptName, normalForm, areAlike,
   version,
 } from 'smap';
@@ -30,6 +30,15 @@ const told: string = translate(text, new Map([['a', map]]));
 const parts: { url: string; line: number; column: number } | null = frame(told);
 const short: string = respell(version) + spell(new Uint32Array(6));
 const columns: Int32Array = map.table().column;
+const builder = new Builder(new URL('http://h/'), { items: 3 });
+builder.setFile(null);
+const at: number = builder.source('a', { content: 'x', ignored: true });
+builder.source(null, { content: null });
+builder.add(0, 0);
+builder.add(0, 0, at, 0, 0, builder.name('n'));
+builder.addAll(new Uint32Array(6));
+builder.addAll([0, 0, at, 0, 0, 0]);
+const built: SourceMap = builder.finish();
 const link: string | null = scriptLink('f()', { css: true });
 const inline: Uint8Array | null = inlineMap(resolveLink(new URL('http://h/a.js'), link ?? 'a.map'));
 const file: string | null = filePath(fileUrl('/a.js') ?? new URL('file:///a.js'));
@@ -58,12 +67,14 @@ generator.applySourceMap(SourceMapConsumer.fromSourceMap(generator), 'a.js');
 const node: SourceNode = new SourceNode(1, 0, 'a.js', ['f', new SourceNode()]).add('()');
 console.log(node.toStringWithSourceMap().map.toJSON().mappings);
 console.log(later, lines, parts, short, columns, handle, segment, original.name, consumer.sources);
-console.log(inline, file, below, alike);
+console.log(inline, file, below, alike, built);
 
 // @ts-expect-error: a program that lacks Symbol.dispose doesn't get it from here
 map[Symbol.dispose]();
 // @ts-expect-error: a column is missing
 map.lookup(0);
+// @ts-expect-error: a map that is built has no bound on the bytes of URLs
+new Builder('http://h/', { urlBytes: 1 });
 // @ts-expect-error: no such option
 map.translate('x', 'y', { hide: true });
 // @ts-expect-error: the text of a script is no URL

@@ -71,6 +71,13 @@ test('memory that ends: each call says so, and works once there is more', is, ()
     translate: () => native.translate(scripts, long, 0, false)[0],
     respell: () => native.respell(JSON.parse(large).mappings),
     spell: () => native.spell(new Uint32Array(6 * 20000)),
+    build() {
+      const builder = native.builderOpen(BASE, 0, 0);
+      native.builderSource(builder, null);
+      native.builderName(builder, '');
+      native.builderAdd(builder, new Uint32Array(6 * 20000));
+      native.close(native.builderFinish(builder));
+    },
     table: () => native.table(rows, new Int32Array(6 * 20001)),
     link: () => native.fileUrl('/' + 'x'.repeat(200000)),
   };

@@ -5,7 +5,7 @@ const fs = require('node:fs');
 const path = require('node:path');
 
 const PACKAGE = path.dirname(__dirname);
-const SHARED = ['errors', 'halves', 'inputs', 'inside', 'links', 'calls', 'index'];
+const SHARED = ['errors', 'halves', 'inputs', 'inside', 'links', 'calls', 'builder', 'index'];
 const read = name => fs.readFileSync(path.join(PACKAGE, name), 'utf8');
 
 // A text in which what a pattern finds is replaced. It has to find something.

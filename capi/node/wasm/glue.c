@@ -287,6 +287,58 @@ uint32_t js_spell(double numbers, double mappings)
     return give(code);
 }
 
+/* ---- maps that are built: `has` says whether there is a text, and numbers that are told are `yes` */
+
+uint32_t js_builder_open(double box, double url, double len, uint32_t items, uint32_t lines)
+{
+    smap_limits limits = {items, lines};
+    return smap_builder_open(AT(smap_builder, box), AT(char, url), (size_t)len, &limits);
+}
+
+void js_builder_close(double box)
+{
+    smap_builder_close(AT(smap_builder, box));
+}
+
+uint32_t js_builder_file(double box, uint32_t has, double text, double len)
+{
+    return smap_builder_file(AT(smap_builder, box), has, AT(char, text), (size_t)len);
+}
+
+uint32_t js_builder_source(double box, uint32_t has, double url, double len)
+{
+    return smap_builder_source(AT(smap_builder, box), has, AT(char, url), (size_t)len, &out.yes);
+}
+
+uint32_t js_builder_content(double box, uint32_t source, uint32_t has, double text, double len)
+{
+    return smap_builder_content(AT(smap_builder, box), source, has, AT(char, text), (size_t)len);
+}
+
+uint32_t js_builder_ignore(double box, uint32_t source, uint32_t is_ignored)
+{
+    return smap_builder_ignore(AT(smap_builder, box), source, is_ignored);
+}
+
+uint32_t js_builder_name(double box, double text, double len)
+{
+    return smap_builder_name(AT(smap_builder, box), AT(char, text), (size_t)len, &out.yes);
+}
+
+/* The first of `counts` is the index of a mapping that is wrong. */
+uint32_t js_builder_add(double box, double numbers, double mappings)
+{
+    size_t wrong = 0;
+    uint32_t code = smap_builder_add(AT(smap_builder, box), AT(uint32_t, numbers), (size_t)mappings, &wrong);
+    out.counts[0] = (double)wrong;
+    return code;
+}
+
+uint32_t js_builder_finish(double box, double to)
+{
+    return smap_builder_finish(AT(smap_builder, box), AT(smap_map, to));
+}
+
 /* ---- traces */
 
 uint32_t js_add_script(double scripts, double url, double len, double box)

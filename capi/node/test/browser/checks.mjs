@@ -12,7 +12,8 @@ function codeOf(call) {
 }
 
 export async function checks(library, mapFile) {
-  const { SourceMap, Scripts, scriptLink, resolveLink, inlineMap, fileUrl, filePath, areAlike, frame } = library;
+  const { SourceMap, Builder, Scripts, frame } = library;
+  const { scriptLink, resolveLink, inlineMap, fileUrl, filePath, areAlike } = library;
   const map = new SourceMap(TEXT, BASE);
   const { source, sourceLine, sourceColumn, name } = map.lookup(0, 7);
   const large = JSON.stringify({ version: 3, sources: ['a'], mappings: 'AAAA' + ',CAAC'.repeat(200000) });
@@ -22,6 +23,8 @@ export async function checks(library, mapFile) {
   const scripts = new Scripts({ 'http://h/u': new SourceMap(bytes, 'http://h/u.map') });
   const told = scripts.translateAndCount('Error\n@http://h/u:1:2\n\ud800');
   const later = await SourceMap.open(bytes, BASE);
+  const builder = new Builder(BASE);
+  builder.add(0, 4, builder.source('a'), 1, 2);
   const closed = new SourceMap(TEXT, BASE);
   closed.close();
   return {
@@ -32,6 +35,7 @@ export async function checks(library, mapFile) {
     bytes: new TextDecoder().decode(map.canonical({ buffer: true })) === map.canonical(),
     log: [told.log.split('\n')[1], told.translated, told.log.at(-1) === '\ud800'],
     later: later.counts.mappings > 0,
+    built: builder.finish().canonicalMappings(),
     links: [scriptLink('f();\n//# sourceMappingURL=a.map'), resolveLink('http://h/a/b.js', 'c.map'),
       new TextDecoder().decode(inlineMap('data:application/json;base64,e30=')), fileUrl('C:\\a.js'),
       filePath('file:///a%20b.js'), areAlike('HTTP://h:80/a', 'http://h/a')],
