@@ -34,8 +34,8 @@ class Builder {
   #numbers = new Uint32Array(ROOM);
   #length = 0;
 
-  constructor(url, limits) {
-    const [items, lines] = limitsOf({ limits });
+  constructor(url, options) {
+    const [items, lines] = limitsOf(options);
     this.#handle = native.builderOpen(urlOf(url), items, lines);
     this.#lines = lines || MOST_LINES;
   }

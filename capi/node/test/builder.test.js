@@ -11,7 +11,7 @@ const ROWS = [[1, 4, 1, 0, 0, NONE], [0, 0, 0, 2, 1, 0], [1, 4, 0, 5, 0, NONE]];
 const MAPPINGS = 'AAECA;ICFD,ADKA';
 
 function begun(limits) {
-  const builder = new Builder(BASE, limits);
+  const builder = new Builder(BASE, { limits });
   builder.setFile('out.js');
   assert.equal(builder.source('a.ts'), 0);
   assert.equal(builder.source('b.ts', { content: 'B', ignored: true }), 1);
@@ -154,8 +154,8 @@ test('the other codes of the library', () => {
     return true;
   });
   for (const url of ['no url', '', '/a', '\ud800']) code('SMAP_NOT_URL', () => new Builder(url));
-  code('SMAP_LIMITS', () => new Builder(BASE, { items: 2 ** 31 }));
-  code('SMAP_LIMITS', () => new Builder(BASE, { lines: 2 ** 24 + 1 }));
+  code('SMAP_LIMITS', () => new Builder(BASE, { limits: { items: 2 ** 31 } }));
+  code('SMAP_LIMITS', () => new Builder(BASE, { limits: { lines: 2 ** 24 + 1 } }));
   const builder = begun({ items: 2 });
   code('SMAP_NOT_URL', () => builder.source('http://['));
   code('SMAP_TOO_MANY', () => builder.source('c.ts'));
@@ -185,7 +185,7 @@ test('what is no URL, text, limit or list of numbers is a TypeError', () => {
   }
   for (const bad of [-1, 0.5, NaN, null, 2 ** 32, '1', true]) {
     for (const limits of [{ items: bad }, { lines: bad }]) {
-      assert.throws(() => new Builder(BASE, limits), TypeError);
+      assert.throws(() => new Builder(BASE, { limits }), TypeError);
     }
   }
   assert.throws(() => builder.name(null), TypeError);

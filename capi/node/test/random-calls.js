@@ -303,7 +303,7 @@ const CALLS_OF = {
     assert.equal(respell(text), text);
   },
   building(given) {
-    const builder = new Builder(given.next(4) ? 'http://h/m' : given.url(), usual(given)?.limits);
+    const builder = new Builder(given.next(4) ? 'http://h/m' : given.url(), usual(given));
     for (let i = given.next(60); i > 0; i--) {
       allowed(outcome(() => BUILDER_CALLS[given.one(Object.keys(BUILDER_CALLS))](given, builder)));
     }

@@ -30,7 +30,7 @@ const told: string = translate(text, new Map([['a', map]]));
 const parts: { url: string; line: number; column: number } | null = frame(told);
 const short: string = respell(version) + spell(new Uint32Array(6));
 const columns: Int32Array = map.table().column;
-const builder = new Builder(new URL('http://h/'), { items: 3 });
+const builder = new Builder(new URL('http://h/'), { limits: { items: 3 } });
 builder.setFile(null);
 const at: number = builder.source('a', { content: 'x', ignored: true });
 builder.source(null, { content: null });
@@ -74,7 +74,7 @@ map[Symbol.dispose]();
 // @ts-expect-error: a column is missing
 map.lookup(0);
 // @ts-expect-error: a map that is built has no bound on the bytes of URLs
-new Builder('http://h/', { urlBytes: 1 });
+new Builder('http://h/', { limits: { urlBytes: 1 } });
 // @ts-expect-error: no such option
 map.translate('x', 'y', { hide: true });
 // @ts-expect-error: the text of a script is no URL
