@@ -44,6 +44,7 @@ class Given {
     this.maps = [];
     this.scripts = [];
     this.later = [];
+    this.awaited = new Set();
     this.taken = [];
   }
 
@@ -274,7 +275,11 @@ const CALLS_OF = {
     for (let i = 0; i < 3; i++) collect();
     spoil(given);
   },
-  take: given => keep(given, SourceMap.take(given.number())),
+  take(given) {
+    const number = given.number();
+    // one that another thread waits for is left to it
+    if (!given.awaited.has(number)) keep(given, SourceMap.take(number));
+  },
   map(given) {
     const map = given.one(given.maps);
     if (map) MAP_CALLS[given.one(Object.keys(MAP_CALLS))](given, map);
@@ -365,6 +370,7 @@ const CALLS_OF = {
   shared(given) {
     if (native.isWasm || given.next(10)) return;
     const numbers = given.maps.map(map => outcome(() => map.share())).filter(Number.isInteger);
+    for (const number of numbers) given.awaited.add(number);
     const code = `const { workerData } = require('node:worker_threads');
       require(${JSON.stringify(__filename)}).callShared(...workerData);`;
     const worker = new Worker(code, { eval: true, workerData: [given.next(2 ** 31), numbers] });
