@@ -78,7 +78,7 @@ fn finished_text(
     job: Job<'_>,
 ) -> Result<Vec<u8>, AllocError>
     ensures { IfOk result (λ text. text.items ≡ canonical_text_in (form_asked true) base.now
-        (spec.finished job.thin job.used (record_of map))) }
+        (spec.finished job.entry.thin job.entry.used (record_of map))) }
 {
     let map = thinned_if(alloc, map, job.thin)?;
     let map = used_if(alloc, map, job.used)?;
@@ -118,7 +118,7 @@ fn composed_text(
 ) -> Result<Option<Vec<u8>>, AllocError>
     ensures { IfOk result (λ o. IfSome o (λ text. (maps : Maps)
         × (text.items ≡ canonical_text_in (form_asked true) base.now
-        (spec.finished job.thin job.used (composition (record_of map.now) maps))))) }
+        (spec.finished job.entry.thin job.entry.used (composition (record_of map.now) maps))))) }
 {
     match followed(alloc, map, chain, below)? {
         Some(map) => Ok(Some(finished_text(alloc, base, map, job)?)),
