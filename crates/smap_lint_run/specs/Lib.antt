@@ -1,1 +1,3 @@
 pub mod SourceMaps
+pub mod Chains
+pub mod Search

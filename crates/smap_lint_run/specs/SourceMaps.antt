@@ -5,7 +5,8 @@ use Rattle.smap_link.specs.Kinds.{link_in}
 use Rattle.smap_link.specs.Names.{script_name}
 use Rattle.smap_link.specs.Paths.{bare}
 use Rattle.smap_map_choice.specs.declared.named.NamedFault.TheVariants as fault
-use Rattle.smap_map_files.specs.Target.{IsTarget}
+use Rattle.smap_map_choice.specs.ScriptMap.{beside}
+use Rattle.smap_map_files.specs.Target.{IsTarget, IsTargetFile}
 use Rattle.smap_map_files.specs.declared.target.Target.{Target}
 use Rattle.smap_map_files.specs.declared.target.Target.TheVariants as target
 use Rattle.smap_lint_run.specs.declared.source_maps.Lead.{Lead}
@@ -28,3 +29,8 @@ abbrev pub IsLead : List ℕ → List ℕ → List ℕ → Option Lead → Type 
 IsLead folder url text None = link_in (bare url) text ≡ None
 IsLead folder url text (Some l) =
     (link_in (bare url) text ≡ Some l.named.items) × IsSourceTarget folder url l.named.items l.target
+
+-- The map next to the source with this URL.
+abbrev pub IsBeside : List ℕ → List ℕ → Target → Type 0
+IsBeside folder url t = (name : List ℕ)
+    × ((script_name folder (bare url) ≡ Some name) × IsTargetFile (beside name) t)

@@ -1,5 +1,9 @@
 //! The maps that the sources of a map lead to, at every depth.
+ghost use Rattle.std.specs.Prelude.{IfOk};
+ghost use Rattle.smap_lint_run.specs.Chains.{IsChain};
+
 use crate::search::Search;
+use crate::ways::Sources;
 use smap_map_files::Home;
 use smap_record::SourceMap;
 use smap_system::Disk;
@@ -13,9 +17,19 @@ pub(crate) const DEEPEST: usize = 16;
 pub struct MoreMaps<'a> {
     /// Whether a source that names none has the `NAME.map` next to it.
     pub beside: bool,
-    /// The URLs of sources, whole or below that of the folder, with the paths of their maps. What such a source
-    /// names doesn't count.
+    /// The URLs of sources, whole or below that of the folder, with the paths of their maps. What such a
+    /// source names doesn't count.
     pub given: &'a [(&'a str, &'a str)],
+}
+
+/// How the maps of sources are looked for.
+#[derive(Clone, Copy)]
+pub struct ChainAsked<'a> {
+    /// The folder in which files are.
+    pub home: Home<'a>,
+    pub more: MoreMaps<'a>,
+    /// How many bytes the URLs of a map's sources may take.
+    pub url_bytes: usize,
 }
 
 /// The maps that the sources of a map lead to. Those of one source are the same wherever it is listed.
@@ -36,29 +50,6 @@ pub struct Chain {
     pub missing: usize,
     /// Why other maps can't be followed, a sentence each.
     pub refusals: Vec<String>,
-}
-
-impl Chain {
-    pub(crate) fn new(alloc: Global) -> Chain {
-        Chain {
-            maps: Vec::new(alloc),
-            numbers: Vec::new(alloc),
-            leads: Vec::new(alloc),
-            depth: None,
-            example: None,
-            missed: None,
-            missing: 0,
-            refusals: Vec::new(alloc),
-        }
-    }
-
-    /// Says why a map that is there can't be followed.
-    pub(crate) fn refuse(&mut self, refusal: String) -> Result<Option<usize>, AllocError> {
-        match self.refusals.push(refusal) {
-            Ok(()) => Ok(None),
-            Err(_) => Err(AllocError),
-        }
-    }
 }
 
 /// Marks the maps that have these indices. Answers whether there is one.
@@ -87,19 +78,23 @@ fn mark_next(leads: &[Vec<Option<usize>>], marks: &[bool], next: &mut Vec<bool>)
 }
 
 /// How many levels of maps there are; none if they are too many, or without an end.
-fn depth_of(alloc: Global, chain: &Chain) -> Result<Option<usize>, AllocError> {
-    let count = chain.maps.len();
-    if chain.leads.len() < count {
+fn depth_of(
+    alloc: Global,
+    count: usize,
+    numbers: &[Option<usize>],
+    leads: &[Vec<Option<usize>>],
+) -> Result<Option<usize>, AllocError> {
+    if leads.len() < count {
         return Ok(None);
     }
     let mut marks = vec![in alloc; false; count]?;
-    let mut is_one = mark(&chain.numbers, &mut marks);
+    let mut is_one = mark(numbers, &mut marks);
     for depth in 0..DEEPEST + 1 {
         if !is_one {
             return Ok(Some(depth));
         }
         let mut next = vec![in alloc; false; count]?;
-        is_one = mark_next(&chain.leads, &marks, &mut next);
+        is_one = mark_next(leads, &marks, &mut next);
         marks = next;
     }
     Ok(None)
@@ -115,16 +110,32 @@ fn depth_of(alloc: Global, chain: &Chain) -> Result<Option<usize>, AllocError> {
 pub fn chain_of<D: Disk>(
     alloc: Global,
     disk: &D,
-    home: Home<'_>,
+    asked: ChainAsked<'_>,
     script: &[u8],
     map: &SourceMap,
-    more: MoreMaps<'_>,
-    url_bytes: usize,
-) -> Result<Chain, AllocError> {
-    let mut search = Search::new(alloc, disk, home, more, url_bytes);
-    search.start(script, map)?;
-    search.go_on()?;
-    let Search { mut chain, .. } = search;
-    chain.depth = depth_of(alloc, &chain)?;
-    Ok(chain)
+) -> Result<Chain, AllocError>
+    ensures { IfOk result (IsChain (D.held disk.now) asked.entry script.now map.now) }
+{
+    let sources = Sources { alloc, disk, asked };
+    let mut search = Search::new(alloc);
+    let numbers = search.numbers(&sources, script, map)?;
+    let leads = search.leads(&sources)?;
+    let Search {
+        maps,
+        example,
+        missed,
+        missing,
+        refusals,
+        ..
+    } = search;
+    Ok(Chain {
+        depth: depth_of(alloc, maps.len(), &numbers, &leads)?,
+        maps,
+        numbers,
+        leads,
+        example,
+        missed,
+        missing,
+        refusals,
+    })
 }

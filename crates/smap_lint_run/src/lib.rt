@@ -20,9 +20,10 @@ mod search;
 mod source_files;
 mod source_maps;
 mod visit;
+mod ways;
 
 pub use asked::LintAsked;
-pub use chains::{Chain, MoreMaps, chain_of};
+pub use chains::{Chain, ChainAsked, MoreMaps, chain_of};
 pub use program::lint;
 pub use refusing::{refuse_empty, refuse_path};
 pub use remarks::chain_remarks;

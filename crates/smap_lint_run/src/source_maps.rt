@@ -1,6 +1,11 @@
 //! Which map a source has: each source is looked at as a script, which names its map in its last comment.
-ghost use Rattle.std.specs.Prelude.{IfOk};
-ghost use Rattle.smap_lint_run.specs.SourceMaps.{IsLead, IsSourceTarget};
+ghost use Rattle.std.specs.Prelude.{◌≡◌, ◌++◌, ℕ, [], IfOk, IfSome, List, Some};
+ghost use Rattle.std.specs.Prelude.{option_copied, option_map, string_bytes, unwrap_or};
+ghost use Rattle.smap_link.specs.Names.{script_name as name_in};
+ghost use Rattle.smap_link.specs.Paths.{bare as bare_of};
+ghost use Rattle.smap_lint_run.specs.Chains.{IsFileText, IsText};
+ghost use Rattle.smap_lint_run.specs.Search.{text_of};
+ghost use Rattle.smap_lint_run.specs.SourceMaps.{IsBeside, IsLead, IsSourceTarget};
 
 use crate::folder::has_no_size;
 use smap_link::{bare, is_data, link_in, script_name};
@@ -19,7 +24,9 @@ pub(crate) enum SourceText<'a> {
 }
 
 impl SourceText<'_> {
-    pub(crate) fn bytes(&self) -> &[u8] {
+    pub(crate) fn bytes(&self) -> &[u8]
+        ensures { result.now ≡ text_of self.now }
+    {
         match self {
             SourceText::Content(text) => text.as_bytes(),
             SourceText::File(bytes) => bytes.as_slice(),
@@ -81,7 +88,9 @@ fn path_of<D: Disk>(
     disk: &D,
     folder: &str,
     name: &str,
-) -> Result<Option<String>, AllocError> {
+) -> Result<Option<String>, AllocError>
+    ensures { IfOk result (λ o. IfSome o (λ path. string_bytes path ≡ folder.now ++ name.now)) }
+{
     let path = format!(in alloc; "{folder}{name}")?;
     if disk.kind(path.as_str()) == Kind::File && is_within(alloc, disk, folder, path.as_str())? {
         return Ok(Some(path));
@@ -95,7 +104,11 @@ fn path_in<D: Disk>(
     disk: &D,
     home: Home<'_>,
     url: &str,
-) -> Result<Option<String>, AllocError> {
+) -> Result<Option<String>, AllocError>
+    ensures { IfOk result (λ o. IfSome o (λ path. (name : List ℕ)
+        × ((name_in home.entry.url.now (bare_of url.now) ≡ Some name)
+        × (string_bytes path ≡ home.entry.path.now ++ name)))) }
+{
     let Some(name) = script_name(alloc, home.url, bare(url.as_bytes()))? else {
         return Ok(None);
     };
@@ -115,7 +128,9 @@ pub(crate) fn lead_beside<D: Disk>(
     disk: &D,
     home: Home<'_>,
     url: &str,
-) -> Result<Option<Lead>, AllocError> {
+) -> Result<Option<Lead>, AllocError>
+    ensures { IfOk result (λ o. IfSome o (λ l. IsBeside home.entry.url.now url.now l.target)) }
+{
     let Some(name) = script_name(alloc, home.url, bare(url.as_bytes()))? else {
         return Ok(None);
     };
@@ -137,7 +152,9 @@ pub(crate) fn file_text<D: Disk>(
     disk: &D,
     home: Home<'_>,
     url: &str,
-) -> Result<Option<Vec<u8>>, AllocError> {
+) -> Result<Option<Vec<u8>>, AllocError>
+    ensures { IfOk result (λ o. IfSome o (λ v. IsFileText (D.held disk.now) home.entry url.now v.items)) }
+{
     let Some(path) = path_in(alloc, disk, home, url)? else {
         return Ok(None);
     };
@@ -159,7 +176,11 @@ pub(crate) fn source_text<'a, D: Disk>(
     home: Home<'_>,
     script: &[u8],
     source: SourceView<'a>,
-) -> Result<Option<SourceText<'a>>, AllocError> {
+) -> Result<Option<SourceText<'a>>, AllocError>
+    ensures { IfOk result (λ o. IsText (D.held disk.now) home.entry script.now
+        (unwrap_or (option_copied source.entry.url) []) (option_copied source.entry.content)
+        (option_map text_of o)) }
+{
     if let Some(content) = source.content {
         return Ok(Some(SourceText::Content(content)));
     }

@@ -22,7 +22,7 @@ use crate::{Failure, Outcome, Verdict, unread};
 use smap_canon::canonical_in;
 use smap_command_line::maps::{MapsWords, Rewrite};
 use smap_compose::{ComposeError, compose_deep, only_used, thin};
-use smap_lint_run::{Chain, MoreMaps, chain_of, chain_remarks};
+use smap_lint_run::{Chain, ChainAsked, MoreMaps, chain_of, chain_remarks};
 use smap_map_files::MapText;
 use smap_record::{Base, Limits, SourceMap};
 use smap_system::{Disk, Host, Stop, Watched};
@@ -203,15 +203,17 @@ fn chain_for<D: Disk>(
     job: Job<'_>,
 ) -> Result<Chain, AllocError> {
     let target = case.target;
-    let script = target.script().as_bytes();
+    let asked = ChainAsked {
+        home: target.home(),
+        more: job.more,
+        url_bytes: job.url_bytes,
+    };
     chain_of(
         case.alloc,
         case.disk,
-        target.home(),
-        script,
+        asked,
+        target.script().as_bytes(),
         map,
-        job.more,
-        job.url_bytes,
     )
 }
 
