@@ -109,7 +109,8 @@ has_map held a script e f m found fitting = record {
 }
 
 -- The number of a source, where its map was found to fit.
-pub number_found : (held : Held) (a : ChainAsked) (maps : List ReadMap) (script : List ℕ) (e : Entry) (f : Found)
+pub number_found : (held : Held) (a : ChainAsked) (maps : List ReadMap) (script : List ℕ) (e : Entry)
+    (f : Found)
     (k : ℕ) → IsFound held a script e f → IsAt maps k (IsFitting held a f)
     → IsNumber held a maps script (Some e) (Some k)
 number_found held a maps script e f k found at = (
@@ -124,7 +125,8 @@ number_found held a maps script e f k found at = (
   ),
 )
 
-pub number_step : {E : Type 0} (held : Held) (a : ChainAsked) (maps : List ReadMap) (script : List ℕ) (e : Entry)
+pub number_step : {E : Type 0} (held : Held) (a : ChainAsked) (maps : List ReadMap) (script : List ℕ)
+    (e : Entry)
     (f : Found) (r : Result (Option ℕ) E) → IsFound held a script e f
     → IfOk r (λ o. IfSome o (λ k. IsAt maps k (IsFitting held a f)))
     → IfOk r (IsNumber held a maps script (Some e))
@@ -150,11 +152,13 @@ some_at (x ∷ xs) zero lt = (x, refl)
 some_at (x ∷ xs) (suc k) lt = some_at xs k (omega arith)
 
 module _ (held : Held) (a : ChainAsked) (old new : List ReadMap) (keeps : Keeps old new) where
-  pub numbers_more : (script : List ℕ) (m : ReadMap) (numbers more : List (Option ℕ)) (number : Option ℕ) (i : ℕ)
+  pub numbers_more : (script : List ℕ) (m : ReadMap) (numbers more : List (Option ℕ)) (number : Option ℕ)
+      (i : ℕ)
       → length numbers ≡ i → more ≡ numbers ++ number ∷ [] → AreNumbers held a old script m numbers
       → IsNumber held a new script (slice_get (record_of m).sources i) number
       → AreNumbers held a new script m more
-  numbers_more script m numbers more number i count e are h = rw e (numbers_pushed held a new script m numbers number
+  numbers_more script m numbers more number i count e are h = rw e
+      (numbers_pushed held a new script m numbers number
       (numbers_kept held a old new keeps script m numbers are) (rw count h))
 
   pub leads_more : (leads more : List (Vec (Option ℕ))) (numbers : Vec (Option ℕ)) (m : ReadMap) (k : ℕ)

@@ -36,7 +36,8 @@ module _ (folder link : List ℕ) where
   file_if None file h = absurd (file_own (is_data link) file refl h)
   file_if (Some name) file h = (name, (refl, h))
 
-pub named_target : (a : ChainAsked) (url text link : List ℕ) (t : Target) → link_in (bare url) text ≡ Some link
+pub named_target : (a : ChainAsked) (url text link : List ℕ) (t : Target) → link_in (bare url) text ≡ Some
+    link
     → IsSourceTarget a.home.url.now url link t → IsTargetOf a url text t
 named_target a url text link (Inline bytes) e h =
     (link, (e, inline_if a.home.url.now link (script_name a.home.url.now (bare url)) bytes h))

@@ -104,7 +104,7 @@ impl Search {
     fn settle(&mut self, found: &Found<'_>, opened: Opened) -> Result<Option<usize>, AllocError>
         ensures keeps { Keeps self.old.maps.items self.new.maps.items }
         ensures files { self.new.files ≡ self.old.files }
-        ensures is { IfOk result (λ o. IfSome o (λ k. 
+        ensures is { IfOk result (λ o. IfSome o (λ k.
             IsAt self.new.maps.items k (λ m. opened ≡ Opened.Map m))) }
     {
         match opened {

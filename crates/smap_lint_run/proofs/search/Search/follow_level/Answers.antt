@@ -13,7 +13,8 @@ loop-k-preserved g c =
       count = length_more c.loop-k.leads.items c.push.new.self.items c.in_ok-numbers.numbers c.loop-k.k
           c.in_ok-push.ensures.items before.count;
       are = leads_more (g.D.Disk.held c.args.sources.now.disk.now) c.args.sources.now.asked
-          c.loop-k.self.maps.items c.numbers_at.new.self.maps.items c.numbers_at.ensures.keeps c.loop-k.leads.items
+          c.loop-k.self.maps.items c.numbers_at.new.self.maps.items c.numbers_at.ensures.keeps
+          c.loop-k.leads.items
           c.push.new.self.items c.in_ok-numbers.numbers found.0 c.loop-k.k before.count
           c.in_ok-push.ensures.items before.are there (c.in_ok-numbers.ensures.are found.0 there);
     }

@@ -8,7 +8,8 @@ loop-i-preserved g c = let before = c.loop-i.invariant in record {
   count = length_more c.loop-i.numbers.items c.push.new.self.items c.in_ok-number.number c.loop-i.i
       c.in_ok-push.ensures.items before.count;
   are = λ m there. numbers_more (g.D.Disk.held c.args.sources.now.disk.now) c.args.sources.now.asked
-      c.loop-i.self.maps.items c.number_at.new.self.maps.items c.number_at.ensures.keeps c.as_bytes-script.result.now
+      c.loop-i.self.maps.items c.number_at.new.self.maps.items c.number_at.ensures.keeps
+      c.as_bytes-script.result.now
       m c.loop-i.numbers.items c.push.new.self.items c.in_ok-number.number c.loop-i.i before.count
       c.in_ok-push.ensures.items (before.are m there)
       (c.in_ok-number.ensures.is m (before.keeps c.args.k m there));
