@@ -5,12 +5,13 @@ from __future__ import annotations
 import threading
 from collections import OrderedDict
 from dataclasses import dataclass, field
-from typing import Callable, ClassVar, Dict, Iterable, Optional, Tuple
+from typing import Callable, ClassVar, Dict, Iterable, List, Optional, Tuple
 
 from ._declarations import REFUSED
 from ._library import Error
+from .chains import Chain
 from .files import too_large
-from .finders import Finder, Found, base_by_default
+from .finders import Finder, Found, LeadOf, base_by_default, lead_alone
 from .maps import Map
 from .noted import Noted
 from .scripts import MOST_SHOWN
@@ -108,12 +109,15 @@ class Cache:
     """The maps of scripts. All threads may use it at once.
 
     What it knows of a script it knows by the script's own name. Another name means the script if it is alike,
-    and that of no script with a map, and the finder says so by a method `meant_by`.
+    and that of no script with a map, and the finder says so by a method `meant_by`. With `chains`, a map is
+    composed with those that its sources lead to: a method `leads` of the finder gives what finds these.
     """
 
-    def __init__(self, finder: Finder, bounds: Bounds) -> None:
+    def __init__(self, finder: Finder, bounds: Bounds, chains: bool) -> None:
         self.lock = threading.Lock()
+        self.chains = chains
         self._finder = finder
+        self._leads: Callable[[str], LeadOf] = getattr(finder, "leads", lambda script: lead_alone)
         self._meant_by: Callable[[str], Optional[str]] = getattr(finder, "meant_by", lambda name: None)
         self._bounds = bounds
         self._kept: OrderedDict[str, Kept] = OrderedDict()
@@ -123,6 +127,7 @@ class Cache:
         # the size of each map that was opened, and how often it was
         self._opened: Noted[Tuple[int, int]] = Noted()
         self._broken: Noted[Exception] = Noted()
+        self._unfollowed: Noted[List[str]] = Noted()
         # the scripts that other names mean
         self._meant: Noted[str] = Noted()
 
@@ -141,6 +146,10 @@ class Cache:
     def broken(self) -> Dict[str, Exception]:
         with self.lock:
             return self._broken.as_dict()
+
+    def unfollowed(self) -> Dict[str, List[str]]:
+        with self.lock:
+            return {script: list(faults) for script, faults in self._unfollowed.as_dict().items()}
 
     def _own_name(self, name: str) -> str:
         """The name of the script that a name means, as far as that is known."""
@@ -179,12 +188,14 @@ class Cache:
                 for script in list(self._kept):
                     self._drop(script)
                 self._broken.clear()
+                self._unfollowed.clear()
                 self._meant.clear()
                 return
             for script in {name, self._own_name(name)}:
                 if script in self._kept:
                     self._drop(script)
                 self._broken.forget(script)
+                self._unfollowed.forget(script)
             self._meant.forget(name)
 
     # ---- maps are opened
@@ -259,21 +270,43 @@ class Cache:
             self._broken.trim()
 
     def _read(self, script: str, found: Found) -> Kept:
+        """Opens a map, and those that its sources lead to."""
+        reserved: List[int] = []
+        try:
+            opened = self._open_map(found, self._bounds.url_bytes, reserved)
+            if self.chains:
+                opened = self._composed(script, opened, found.data, reserved)
+            made = Kept(opened, opened.held() + beside(script), script)
+        except BaseException:
+            with self.lock:
+                self._opening_size -= sum(reserved)
+            raise
+        return self._keep(script, made, sum(reserved))
+
+    def _open_map(self, found: Found, url_bytes: int, reserved: List[int]) -> Map:
         """Opens a map, for which others make room before it is known how much it takes."""
         if len(found.data) > self._bounds.map_bytes:
             raise too_large(self._bounds.map_bytes)
         guess = expected(found.data)
         with self.lock:
-            reserved = guess * self._make_room(guess)
-            self._opening_size += reserved
-        try:
-            opened = Map.open(found.data, found.base, url_bytes=self._bounds.url_bytes)
-            made = Kept(opened, opened.held() + beside(script), script)
-        except BaseException:
-            with self.lock:
-                self._opening_size -= reserved
-            raise
-        return self._keep(script, made, reserved)
+            reserved.append(guess * self._make_room(guess))
+            self._opening_size += reserved[-1]
+        return Map.open(found.data, found.base, url_bytes=url_bytes)
+
+    def _composed(self, script: str, opened: Map, data: bytes, reserved: List[int]) -> Map:
+        """A map composed with those that its sources lead to, which are closed then."""
+
+        def open_map(found: Found, url_bytes: int) -> Map:
+            return self._open_map(found, url_bytes, reserved)
+
+        chain = Chain(self._leads(script), open_map, self._bounds.url_bytes)
+        made = chain.composed(script, opened, data)
+        with self.lock:
+            self._unfollowed.forget(script)
+            if chain.faults:
+                self._unfollowed.note(script, chain.faults)
+                self._unfollowed.trim()
+        return made
 
     def _keep(self, script: str, made: Kept, reserved: int) -> Kept:
         """A handle of its own of a map, which stays in the cache if that is large enough."""

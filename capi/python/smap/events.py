@@ -558,6 +558,9 @@ class Events:
             say(f"{self.others - MOST_TOLD} more lines are left as they are")
         for script, fault in self._store.broken.items():
             say(f"{script}: {fault}")
+        for script, faults in self._store.unfollowed.items():
+            for text in faults:
+                say(f"{script}: {text}")
         counts, events = self._store.counts, self._lines - self.others
         if not self._stacks.translated:
             missing = sorted(self._store.missing.items(), key=lambda item: -item[1])

@@ -8,15 +8,17 @@ import os
 import re
 from bisect import bisect_right
 from collections.abc import Mapping as AnyMapping
+from functools import partial
 from typing import Callable, Dict, Iterable, Iterator, List, NamedTuple, Optional, Tuple, Union
 
-from ._declarations import FILE_MAP, NAMED_INLINE, NAMED_NOTHING, NAMED_UNSAID, REFUSED
+from ._declarations import FILE_MAP, NAMED_FILE, NAMED_INLINE, NAMED_NOTHING, NAMED_UNSAID, REFUSED
 from ._library import Error
 from .files import MOST_BYTES, from_end, read_file, too_large
 from .links import as_bytes, file_kind, file_url, normal_form, resolve, script_url
 from .scripts import SOME_FOLDER, Folder, OutsideFolderError, Script, may_name_map, of_named
 
-__all__ = ["Finder", "Folders", "Found", "OutsideFolderError", "RepeatedError", "base_by_default"]
+__all__ = ["Finder", "Folders", "Found", "Lead", "LeadOf", "OutsideFolderError", "RepeatedError"]
+__all__ += ["base_by_default", "lead_alone"]
 
 # What is said of a folder without the URL of its scripts.
 NO_PLACES = 'folders are given with the URLs of their scripts, as {"https://shop.example/": "dist/"}'
@@ -33,6 +35,18 @@ class Found(NamedTuple):
 
 # A finder gets the URL of a script, and returns its map, or the map's text alone, or None if there is none.
 Finder = Callable[[str], Union[Found, bytes, None]]
+
+
+class Lead(NamedTuple):
+    """The map that a source names: what reads it, its file unless the source has it, and the source's text."""
+
+    read: Callable[[], Found]
+    file: Optional[str]
+    text: bytes
+
+
+# Gets the URL of a source and its content, and returns what it names as its map, if it names one.
+LeadOf = Callable[[str, Optional[str]], Optional[Lead]]
 
 
 class RepeatedError(Error):
@@ -190,13 +204,63 @@ class Folders:
         it = self._read_script(Folder(_own_folder(script), place, None), name, file)
         if it.kind in (NAMED_UNSAID, NAMED_NOTHING):
             return self._read(file, base_by_default(script))
+        return self._had(script, it)
+
+    def _had(self, script: str, it: Script) -> Found:
+        """The map that a script names. Raises an error where that can't be had."""
         fault = it.fault()
         if fault is not None:
             raise fault
         found = self._named(script, it, it.first or b"")
         if found is None:
-            raise FileNotFoundError(errno.ENOENT, "the map that it names is missing", file)
+            raise FileNotFoundError(errno.ENOENT, "the map that it names is missing", it.file)
         return found[1]
+
+    def leads(self, script: str) -> LeadOf:
+        """What finds the maps of sources: of those of a script's map, and of the maps that these lead to. A
+        source is looked at as a script in the folder of that one.
+        """
+        folder = self._folder_of(script)
+        if folder is None:
+            return lead_alone
+        return partial(self._lead_of, folder)
+
+    def _lead_of(self, folder: Folder, url: str, content: Optional[str]) -> Optional[Lead]:
+        form = _form(url)
+        found = None if form is None else folder.name_alike(form)
+        if found is None:
+            return lead_alone(url, content)
+        name = os.fsdecode(found)
+        file = folder.file(name)
+        if content is not None:
+            it = Script.of(folder, name, content.encode())
+        elif file is not None:
+            it = self._read_script(folder, name, file)
+        else:
+            return None
+        return None if it.kind in (NAMED_UNSAID, NAMED_NOTHING) else self._lead(url, it, file, content)
+
+    def _lead(self, url: str, it: Script, file: Optional[str], content: Optional[str]) -> Lead:
+        """What a source names, which has a file in its folder, or a content, or both."""
+        named = it.named_file(it.first or b"") if it.kind == NAMED_FILE else None
+        text = it.lines
+        if content is None and file is not None:
+            text = read_file(file, self._map_bytes)
+        elif named is not None and file is not None:
+            if _normal(read_file(file, self._map_bytes)) != _normal(text):
+                raise Error(REFUSED, f"its content in the map differs from {file}, which names {named}")
+        return Lead(partial(self._had, url, it), named, text)
+
+    def _folder_of(self, script: str) -> Optional[Folder]:
+        """The folder of a script, which has its sources as well."""
+        if script in self._files:
+            key = _own_folder(script)
+            return Folder(key, os.path.dirname(self._files[script]), _form(key))
+        for folder in self._folders:
+            name = folder.name_of(script)
+            if name is not None and folder.has(name):
+                return folder
+        return None
 
     def meant_by(self, name: str) -> Optional[str]:
         """The script with a map that this name means, which has none itself: the first whose name is alike
@@ -295,6 +359,23 @@ class Folders:
 
     def __reduce__(self) -> Tuple[type, Tuple[Dict[str, str], int]]:
         return type(self), (self._places(), self._map_bytes)
+
+
+def lead_alone(url: str, content: Optional[str]) -> Optional[Lead]:
+    """What a source that is in no folder names as its map, if it names one: its content may hold that."""
+    text, name = (content or "").encode(), os.path.basename(_without_query(as_bytes(url)))
+    it = Script.of(Folder(SOME_FOLDER, "", None), os.fsdecode(name), text)
+    if it.kind in (NAMED_UNSAID, NAMED_NOTHING):
+        return None
+    fault = it.fault()
+    if fault is not None or it.kind == NAMED_FILE:
+        raise fault or it.outside()
+    return Lead(partial(Found, it.first or b"", _own_url(url)), None, text)
+
+
+def _normal(text: bytes) -> bytes:
+    """A text without what tools change: a byte order mark before it, and carriage returns."""
+    return re.sub(rb"\A\xef\xbb\xbf|\r", b"", text)
 
 
 def _form(name: str, with_query: bool = False) -> Optional[bytes]:

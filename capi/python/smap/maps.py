@@ -8,7 +8,7 @@ from dataclasses import dataclass
 from typing import AnyStr, Callable, Dict, Iterable, Iterator, List, Optional, Tuple, Union
 
 from . import _declarations as declared
-from ._declarations import DROPPED, NONE, RANGE
+from ._declarations import DROPPED, NONE, OK, RANGE
 from ._library import LARGEST_SIZE, Counts, Error, Owner, are_position, as_data, as_url, as_words, bound_of
 from ._library import check, how_bits, index_of, lib, limit_of, taken, written
 from .files import read_file
@@ -261,6 +261,11 @@ class Map(Owner):
         return written(self._call, lib.smap_flatten)
 
     # ---- sources
+
+    def _has_content(self, source: int) -> bool:
+        """Whether a source has a content, which isn't copied."""
+        none = create_string_buffer(1)
+        return self._call(lib.smap_source_content, source, none, 0, byref(c_size_t())) == OK
 
     def source(self, source: int) -> Source:
         """A source by its number."""

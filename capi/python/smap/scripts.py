@@ -129,7 +129,7 @@ class Script:
             return None
         file = os.path.realpath(file)
         if not file.startswith(os.path.join(os.path.realpath(self.folder.place), "")):
-            raise self._outside()
+            raise self.outside()
         return file
 
     def fault(self) -> Optional[Error]:
@@ -143,9 +143,9 @@ class Script:
             except Error as fault:
                 if self.kind != NAMED_LEAVES or fault.code == NOT_UTF8:
                     return of_named(self.file, fault)
-        return self._outside()
+        return self.outside()
 
-    def _outside(self) -> OutsideFolderError:
+    def outside(self) -> OutsideFolderError:
         url = self.url
         shown = url[:MOST_SHOWN].decode("utf-8", "replace")
         return OutsideFolderError(self.file, shown + "..." * (len(url) > MOST_SHOWN))

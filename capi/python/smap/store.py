@@ -91,6 +91,12 @@ class Store:
     `map_bytes` bytes is broken, and so is one whose sources have more than `url_bytes` bytes of URLs together,
     as those of a short text may.
 
+    Unless `chains` is False, a map is composed with those that its sources lead to, at up to 16 levels, as
+    docs/CHAINS.md has it: positions are those in the last sources. A source is looked at as a script of the
+    same folder; where the finder is a function, that is none, so that it has to hold its map itself. Inner
+    maps are closed once they are composed. Each may have `map_bytes` bytes, and the URLs of all their sources
+    take `url_bytes`. A source that can't be followed stays as it is: `unfollowed` says why.
+
     A script without a map, or with a broken one, leaves its lines as they are, and is counted. One without a
     map is looked for again by each call; one that is broken stays in `broken` until `forget`. A map stays as
     it was opened until it makes room, or until `forget`, whatever becomes of its file. What a store knows by
@@ -110,12 +116,13 @@ class Store:
         cache_bytes: int = 1 << 30,
         map_bytes: int = MOST_BYTES,
         url_bytes: int = MOST_URL_BYTES,
+        chains: bool = True,
     ) -> None:
         self._bounds = Bounds(cache_bytes, map_bytes, url_bytes)
         if isinstance(finder, AnyMapping) or not callable(finder):
             finder = Folders(finder, map_bytes)
         self._finder: Finder = finder
-        self._cache = Cache(finder, self._bounds)
+        self._cache = Cache(finder, self._bounds, chains)
         self._lock = self._cache.lock
         self._missing: Noted[int] = Noted()
         self._known = Known()
@@ -139,6 +146,11 @@ class Store:
         return self._bounds.url_bytes
 
     @property
+    def chains(self) -> bool:
+        """Whether maps are composed with those that their sources lead to."""
+        return self._cache.chains
+
+    @property
     def opened(self) -> Dict[str, int]:
         """How often the map of each script was opened: more than once if it made room for others.
 
@@ -153,6 +165,14 @@ class Store:
         The last 10,000 are known by name, and others looked for again.
         """
         return self._cache.broken()
+
+    @property
+    def unfollowed(self) -> Dict[str, List[str]]:
+        """Why maps that the sources of a script's map lead to aren't followed, in ten texts at most.
+
+        The last 10,000 scripts are known by name.
+        """
+        return self._cache.unfollowed()
 
     @property
     def missing(self) -> Dict[str, int]:
@@ -187,8 +207,8 @@ class Store:
     def __exit__(self, *error: object) -> None:
         self.close()
 
-    def __reduce__(self) -> Tuple[type, Tuple[Finder, int, int, int]]:
-        return type(self), (self._finder, self.cache_bytes, self.map_bytes, self.url_bytes)
+    def __reduce__(self) -> Tuple[type, Tuple[Finder, int, int, int, bool]]:
+        return type(self), (self._finder, self.cache_bytes, self.map_bytes, self.url_bytes, self.chains)
 
     def by_debug_id(self, debug_id: str) -> Optional[str]:
         """The script whose map has this debug id, as other calls take it; None where there is none.
