@@ -4,8 +4,9 @@
 const fs = require('node:fs');
 const path = require('node:path');
 const { debuglog } = require('node:util');
-const { SmapError, scriptLink, resolveLink, inlineMap, fileUrl, filePath } = require('./index.js');
+const { SmapError, scriptLink, resolveLink, inlineMap, fileUrl, filePath, areAlike } = require('./index.js');
 const inside = require('./inside.js');
+const { follow } = require('./maps-of-sources.js');
 const native = require('./native.js');
 const { nodesMap } = require('./compiled.js');
 const { isOfPackage } = require('./packages.js');
@@ -15,6 +16,9 @@ const tellNone = (script, error) => debug('no map for %s: %s', script, error.mes
 
 // Whether frames get the names of functions, where the library is sure of them by the texts of sources.
 const areNamed = process.env.SMAP_NAMES !== '0';
+
+// Whether maps are composed with those that their sources lead to.
+const areFollowed = process.env.SMAP_CHAINS !== '0';
 
 // The library is asked for them as for lines of a log: how these begin, and what their script is called.
 const AT = '    at ', SCRIPT = 'script.js';
@@ -179,15 +183,46 @@ function pathNamed(url) {
   }
 }
 
-function read(script) {
-  const got = retrieve(script);
-  if (!got || !got.map) return null;
+// Whether the texts of sources in the text of a map may name maps. A letter may be escaped there.
+function mayNameMaps(text) {
+  if (typeof text !== 'string' && !Buffer.isBuffer(text)) return true;
+  return text.includes('sourceMappingURL') || text.includes('\\u00');
+}
+
+// Opens what was read of the map of a script, for maps-of-sources.js too.
+function open(got, script) {
   const base = whole(String(got.url ?? script));
   const url = fileUrl(base);
   const { map, mayHaveWord } = inside.open(got.map, url ?? base, 'sourcesContent');
-  const names = url === null ? map.sources : map.sources.map(pathNamed);
-  const scripts = areNamed && mayHaveWord ? inside.scriptsOf(SCRIPT, map) : null;
-  return { map, names, scripts, told: new Map(), lengths: [], read: 0 };
+  const nameOf = url === null ? name => name : pathNamed;
+  return { map, nameOf, hasTexts: mayHaveWord, mayName: mayNameMaps(got.map) };
+}
+
+// A text without what tools change in it.
+const normal = text => text.replace(/^\ufeff|\r/g, '');
+
+// What a source names for its map, or null. It is looked at as a script, and its own file only in the package of
+// the one that runs: that of a script which was written over its source is the script's.
+function leadOf(running, source, content, script) {
+  const text = content ?? (areAlike(source, script) ? '' : textOnDisk(source, running));
+  if (!text.includes('sourceMappingURL=')) return null;
+  const got = ownMap(source, { text, isFile: false }) ?? linkedMap(source, text);
+  if (!got && scriptLink(text)) throw new Error('what it names is missing');
+  if (!got) return null;
+  const isInline = got.url === source;
+  const inFile = isInline || content === null ? '' : textOnDisk(source, running);
+  if (inFile && normal(inFile) !== normal(text)) throw new Error('its text in a map differs from its file');
+  return { got, isInline, text };
+}
+
+function read(script) {
+  const got = retrieve(script);
+  if (!got || !got.map) return null;
+  const opened = open(got, script);
+  const ways = { leadOf: (...source) => leadOf(script, ...source), open, tell: tellNone };
+  const { map, hasTexts } = areFollowed ? follow(script, opened, ways) : opened;
+  const scripts = areNamed && hasTexts ? inside.scriptsOf(SCRIPT, map) : null;
+  return { map, names: map.sources.map(opened.nameOf), scripts, told: new Map(), lengths: [], read: 0 };
 }
 
 // The map of a script, read once. One that is refused is none: a trace must not fail because of it.
@@ -262,10 +297,10 @@ function nameFrames(frames) {
 // The text of a source that its map doesn't have. What the hooks have under a script's own name is what was
 // compiled, and not its source.
 function textOf(source, script) {
-  const text = source === script ? null : hooked(source);
-  if (text !== null) return text;
-  return !fileHooks.only && isOfPackage(source, script) ? readDisk(source) : '';
+  return (source === script ? null : hooked(source)) ?? textOnDisk(source, script);
 }
+
+const textOnDisk = (source, script) => (!fileHooks.only && isOfPackage(source, script) ? readDisk(source) : '');
 
 // A tab stays, as in what Node prints.
 const shown = line => line.replace(CONTROL, one => (one === '\t' ? one : '\ufffd'));

@@ -31,8 +31,9 @@ function folderOf(script) {
  */
 function isOfPackage(file, script) {
   try {
+    const place = pathOf(file);
     const folder = folderOf(pathOf(script));
-    return folder !== null && pathOf(file).startsWith(folder + path.sep);
+    return folder !== null && place.startsWith(folder + path.sep);
   } catch {
     return false;
   }
