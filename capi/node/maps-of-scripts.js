@@ -183,36 +183,30 @@ function pathNamed(url) {
   }
 }
 
-// Whether the texts of sources in the text of a map may name maps. A letter may be escaped there.
-function mayNameMaps(text) {
-  if (typeof text !== 'string' && !Buffer.isBuffer(text)) return true;
-  return text.includes('sourceMappingURL') || text.includes('\\u00');
-}
-
 // Opens what was read of the map of a script, for maps-of-sources.js too.
 function open(got, script) {
   const base = whole(String(got.url ?? script));
   const url = fileUrl(base);
   const { map, mayHaveWord } = inside.open(got.map, url ?? base, 'sourcesContent');
-  const nameOf = url === null ? name => name : pathNamed;
-  return { map, nameOf, hasTexts: mayHaveWord, mayName: mayNameMaps(got.map) };
+  return { map, nameOf: url === null ? name => name : pathNamed, hasTexts: mayHaveWord };
 }
 
 // A text without what tools change in it.
 const normal = text => text.replace(/^\ufeff|\r/g, '');
 
-// What a source names for its map, or null. It is looked at as a script, and its own file only in the package of
-// the one that runs: that of a script which was written over its source is the script's.
+// What a source names for its map, or null. It is looked at as a script, by files of the package of the one that
+// runs alone. The file of a script that was written over its source is the script's.
 function leadOf(running, source, content, script) {
   const text = content ?? (areAlike(source, script) ? '' : textOnDisk(source, running));
   if (!text.includes('sourceMappingURL=')) return null;
   const got = ownMap(source, { text, isFile: false }) ?? linkedMap(source, text);
   if (!got && scriptLink(text)) throw new Error('what it names is missing');
   if (!got) return null;
-  const isInline = got.url === source;
-  const inFile = isInline || content === null ? '' : textOnDisk(source, running);
+  if (got.url === source) return { got, isInline: true, text };
+  if (!isOfPackage(got.url, running)) throw new Error('what it names is no file of the package');
+  const inFile = content === null ? '' : textOnDisk(source, running);
   if (inFile && normal(inFile) !== normal(text)) throw new Error('its text in a map differs from its file');
-  return { got, isInline, text };
+  return { got, isInline: false, text };
 }
 
 function read(script) {

@@ -45,14 +45,13 @@ class Chain {
 
   // The map of a script at a level, composed with those of its sources, if one of these has any.
   #followed(script, step, level) {
-    const { map, nameOf, mayName } = step;
+    const { map, nameOf } = step;
     const inner = new Map();
     let depth = 0;
     step.isLookedAt = true;
     map.sources.map(nameOf).forEach((name, i) => {
-      const content = map.content(i);
-      const found = name !== null && (mayName || content === null) && this.#source(script, name, content, level);
-      if (!found) return;
+      const found = name === null ? null : this.#source(script, name, map.content(i), level);
+      if (found === null) return;
       inner.set(i, found.map);
       depth = Math.max(depth, 1 + found.depth);
     });
@@ -107,9 +106,9 @@ class Chain {
 /**
  * The map of a script, composed with the maps that its sources lead to; and whether there may be texts of
  * sources in these. `open` opens what was read of a map, as `opened` is: `map`, the names of its sources
- * (`nameOf` a URL), whether it may have texts of these (`hasTexts`), and whether they may name maps (`mayName`).
- * `leadOf` says what a source of the map of a script names, or null: what was read of its map (`got`), whether
- * the source holds that (`isInline`), and its own text. `tell` gets the faults of maps that aren't followed.
+ * (`nameOf` a URL), and whether it may have texts of these (`hasTexts`). `leadOf` says what a source of the map of
+ * a script names, or null: what was read of its map (`got`), whether the source holds that (`isInline`), and its
+ * own text. `tell` gets the faults of maps that aren't followed.
  */
 function follow(script, opened, ways) {
   const chain = new Chain(ways);

@@ -104,7 +104,8 @@ class ContentTest(unittest.TestCase):
             ("AAUE,IAEA", "f()", True), ("AAUE,IAEA", "'\U0001f600'", False),
             ("AAUE,KAEA", "'\U0001f600'", True), ("AAUE;;AAUE", "f()\r\n", False),
             ("AAUE;;;AAUE", "f()\r\n", False), ("AAUE;;;;AAUE", "f()\r\n", True),
-            ("AAUE;;AAUE", "f()\r", False), (";;;;;;AAUE", "f()\u2028", False),
+            ("AAUE,IAEA", "f()\r\n", True), ("AAUE;;;AAUE", "f()\rg()", False),
+            (";;;;;;AAUE", "f()\u2028", False),
         ]
         for mappings, text, is_past in rows:
             with self.subTest(mappings=mappings, text=text):
@@ -151,13 +152,13 @@ class ContentTest(unittest.TestCase):
         self.check(outer(holding(INNER)).replace(b"sourceMappingURL", b"sourceM\\u0061ppingURL"), LAST)
 
     def test_faults_are_few_and_short_and_forgotten(self):
-        names = [f"{'n' * 500}{number}.js" for number in range(20)]
-        data = map_of(names, "AAAA", sourcesContent=[holding(b"{")] * 20)
+        names = [f"{'n' * 5_000}{number}.js" for number in range(20)]
+        data = map_of(names, "AAAA", sourcesContent=[holding(b"{"), naming("in.map")] * 10)
         maps = {SCRIPT: data}
         with smap.Store(maps.get) as store:
             store.lookup(SCRIPT, 0, 0)
             self.assertEqual([fault[:20] for fault in store.unfollowed[SCRIPT]], [f"{SITE}{'n' * 9}"] * 10)
-            self.assertLess(max(map(len, store.unfollowed[SCRIPT])), 1000)
+            self.assertLess(max(map(len, store.unfollowed[SCRIPT])), 700)
             store.forget(SCRIPT)
             self.assertEqual(store.unfollowed, {})
             store.lookup(SCRIPT, 0, 0)
@@ -181,6 +182,27 @@ class ContentTest(unittest.TestCase):
         for room in (0, held):
             with self.store(data, cache_bytes=room) as store:
                 self.assertEqual((asked(store), store.kept_bytes), (LAST, 0))
+
+    def test_inner_maps_are_closed(self):
+        made = []
+
+        def noted(call):
+            def noting(*words, **more):
+                made.append(call(*words, **more))
+                return made[-1]
+
+            return noting
+
+        data = map_of(["b.js"], "AAAA,IAAI", sourcesContent=[holding(outer(holding(INNER)))])
+        with mock.patch("smap.cache.Map.open", noted(smap.Map.open)), self.store(data) as store:
+            with mock.patch("smap.maps.Map.compose", noted(smap.Map.compose)):
+                self.assertEqual(asked(store), LAST)
+            # three are opened, and two are composed, of which the last is kept
+            self.assertEqual(len(made), 5)
+            self.assertEqual(made.pop().url(0), SITE + "app.ts")
+            for other in made:
+                with self.assertRaisesRegex(smap.Error, "closed"):
+                    other.counts()
 
     def test_inner_maps_have_the_bounds_of_maps(self):
         # the URLs of a.js and b.js have 15 bytes each, and those of the last sources 16
@@ -219,9 +241,12 @@ class FilesTest(FilesCase):
         self.check(FIRST, chains=False)
         self.script("app.js", holding(INNER))
         self.check(LAST)
-        self.script("app.js", "f();g()\n")
+        # the map next to a source isn't that of one that names none, or another
+        file = self.script("app.js", "f();g()\n")
         self.put("dist/app.js", INNER)
         self.check(FIRST)
+        self.script("app.js", naming("none.map"))
+        self.check(FIRST, [f"http://h/m/app.js: [Errno 2] the map that it names is missing: '{file}'"])
 
     def test_three_levels(self):
         self.script("app.js", naming("app.js.map"))
@@ -315,6 +340,23 @@ class FilesTest(FilesCase):
             self.check(LAST)
         names = ["app.min.js", *(f"{level}.js" for level in range(1, 17))]
         self.assertEqual(opened, [f"{SITE}{name}.map" for name in names])
+
+    def test_levels_are_counted_on_each_way_to_a_file(self):
+        # app.js leads on at one level more, and x.js to it through maps in contents
+        self.script("app.js", naming("app.js.map"))
+        self.put("dist/app.js", map_of(["b.js"], "AAAA,IAAI"))
+        self.script("b.js", naming("b.js.map"))
+        self.put("dist/b.js", INNER)
+        data = OUTER
+        for levels in range(1, 16):
+            # b.js.map is two levels below the last of these maps
+            root = map_of(["app.js", "x.js"], "AAAA,ICAI", sourcesContent=[None, holding(data)])
+            self.put("dist/app.min.js", root)
+            if levels + 2 <= 16:
+                self.check(LAST)
+            else:
+                self.check("@http://h/m/app.js:1:1\n@http://h/m/x.js:1:5\n", [ENDLESS])
+            data = map_of(["y.js"], "AAAA,IAAI", sourcesContent=[holding(data)])
 
     def test_a_folder_and_a_script_may_be_named_by_paths(self):
         self.script("app.js", naming("app.js.map"))

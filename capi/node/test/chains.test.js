@@ -71,8 +71,6 @@ const check = (map, more, places, said = [], how = {}) =>
 
 test('a source may hold its map', () => {
   check(outer(holding(INNER)), {}, LAST);
-  // Of a letter there may be an escape.
-  check(outer(holding(INNER)).replaceAll('sourceMappingURL', 'sourceM\\u0061ppingURL'), {}, LAST);
 });
 
 test('SMAP_CHAINS=0 leaves maps alone', () => {
@@ -85,8 +83,9 @@ test('a source is looked at by its file, unless the map has its text', () => {
   check(OUTER, { 'app.js': holding(INNER) }, LAST);
   check(outer(holding(INNER)), { 'app.js': naming('none.map') }, LAST);
   check(outer('f();g()'), inFile, FIRST);
-  // The map next to a source isn't that of one that names none.
+  // The map next to a source isn't that of one that names none, or another.
   check(OUTER, { 'app.js': 'f();g()', 'app.js.map': INNER }, FIRST);
+  check(OUTER, { 'app.js': naming('none.map'), 'app.js.map': INNER }, FIRST, ['app.js: what it names is missing']);
 });
 
 test('three levels', () => {
@@ -110,7 +109,9 @@ test('a map of another text is not followed', () => {
   check(OUTER, { 'app.js': naming('in.map', 'f()'), 'in.map': INNER }, FIRST, [past]);
   // A line ends in two ways, and its end is a position. What few tools count alike isn't looked at.
   check(outer(holding(mapOf(['app.ts'], 'AAUE,IAEA;;;A'), "'\u{1f600}'\r\n")), {}, LAST);
+  check(outer(holding(mapOf(['app.ts'], 'AAUE,IAEA;;;A'), 'f();g()\rh()')), {}, LAST);
   check(outer(holding(mapOf(['app.ts'], 'AAUE,IAEA;;;;A'), "'\u{1f600}'\r\n")), {}, FIRST, [past]);
+  check(outer(holding(INNER, 'f()\r\n')), {}, FIRST, [past]);
   check(outer(holding(mapOf(['app.ts'], 'AAUE,IAEA;;;;;;A'), 'f()\u2028')), {}, LAST);
 });
 
@@ -149,6 +150,19 @@ test('sources that lead back, or on and on, leave the map as it is', () => {
   check(outer(holding(map)), {}, FIRST, [ENDLESS]);
 });
 
+test('levels are counted on each way to a file', () => {
+  const more = { 'app.js': naming('app.js.map'), 'app.js.map': mapOf(['b.js'], 'AAAA,IAAI') };
+  Object.assign(more, { 'b.js': naming('b.js.map'), 'b.js.map': INNER });
+  const through = levels => {
+    let map = OUTER;
+    while (--levels > 0) map = mapOf(['y.js'], 'AAAA,IAAI', { sourcesContent: [holding(map)] });
+    return mapOf(['app.js', 'x.js'], 'AAAA,ICAI', { sourcesContent: [null, holding(map)] });
+  };
+  // b.js.map is two levels below the last of these maps.
+  check(through(14), more, LAST);
+  check(through(15), more, [FIRST[0], 'x.js:1:4'], [ENDLESS]);
+});
+
 // In each of 15 levels, eight sources have the same map.
 test('a file is opened once', () => {
   const more = { '16.js': naming('16.js.map'), '16.js.map': INNER };
@@ -160,10 +174,12 @@ test('a file is opened once', () => {
 });
 
 test('a file of another package is not looked at', () => {
-  const other = lay({ 'app.js': holding(INNER) });
+  const other = lay({ 'app.js': holding(INNER), 'in.map': INNER });
   const source = path.join('..', path.basename(other), 'app.js');
   const { places, said } = asked(lay(files(mapOf([source], 'AAAA,IAAI'), {})));
   assert.deepEqual([places, said], [FIRST.map(place => path.join(other, place)), []]);
+  const text = naming(path.join('..', path.basename(other), 'in.map'));
+  check(outer(text), {}, FIRST, ['app.js: what it names is no file of the package']);
 });
 
 test('what a hook gives is followed, and a script may be named by its URL', () => {
