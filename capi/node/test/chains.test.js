@@ -126,7 +126,7 @@ test('a map that is refused, or is not there, is not followed', () => {
   check(outer(holding('{"version":2}')), {}, FIRST, ['app.js: version']);
   check(outer(naming('data:application/json')), {}, FIRST, ['app.js: not a URL']);
   check(OUTER, { 'app.js': naming('in.map') }, FIRST, ['app.js: what it names is missing']);
-  check(OUTER, { 'app.js': naming('in.map'), 'in.map': '{' }, FIRST, ['app.js: not JSON']);
+  check(OUTER, { 'app.js': naming('in.map'), 'in.map': '{' }, FIRST, ['app.js: not json']);
   // Others are.
   const sourcesContent = [holding('{"version":2}'), holding(INNER)];
   const map = mapOf(['a.js', 'app.js'], 'AAAA,ICAI', { sourcesContent });
@@ -207,4 +207,22 @@ test('stacks and the line of an error that nobody catches are those of the last 
   const place = `${path.join(folder, 'app.ts')}:11`;
   assert.ok(stderr.startsWith(`${place}\n  throw first();\n  ^\n`), stderr);
   assert.ok(stderr.includes(`(${place}:3)\n`), stderr);
+});
+
+// The first map has no texts of sources.
+test('names of functions are those of the last source', () => {
+  const text = "function total() {\n  return new Error('x');\n}\n";
+  const folder = lay({
+    'app.min.js': naming('app.min.js.map', "function a(){return new Error('x')}console.log(a().stack)"),
+    // Column 20, that of the error, is column 20, and column 9 of line 2.
+    'app.min.js.map': mapOf(['app.js'], 'oBAAoB'),
+    'app.js': naming('in.map', "function b(){return new Error('x')}"),
+    'in.map': mapOf(['app.ts'], 'oBACS', { sourcesContent: [text] }),
+  });
+  const words = ['--require', require.resolve('smap/register'), path.join(folder, 'app.min.js')];
+  const named = `    at total (${path.join(folder, 'app.ts')}:2:10)\n`;
+  for (const [env, has] of [[{}, true], [{ SMAP_NAMES: '0' }, false], [{ SMAP_CHAINS: '0' }, false]]) {
+    const { stdout, stderr } = run(folder, words, env);
+    assert.equal(stdout.includes(named), has, stdout + stderr);
+  }
 });
