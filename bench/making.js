@@ -8,8 +8,9 @@
 // source-map and @ampproject/remapping, where NODE_PATH has them, and the program crates/smap/out/smap, or
 // the one that SMAP names. What isn't there is left out. Each figure is processor time, the best of N fresh
 // processes, 3 unless given: from the first mapping or the texts of the maps to the text that is made, or of
-// the program's whole run. It fails where answers differ. With --into the table is put between the two lines
-// of that file that hold `figures of making.js`. Let nothing else run meanwhile.
+// the program's whole run. Below the table is how much time passes in the program, from its start to its end,
+// and in the package that it is compared with. It fails where answers differ. With --into this is put between
+// the two lines of that file that hold `figures of making.js`. Let nothing else run meanwhile.
 const crypto = require('node:crypto');
 const fs = require('node:fs');
 const { SourceMap } = require('node:module');
@@ -76,7 +77,7 @@ const remaps = remap => ({ outer, maps }) => timed(() => String(remap(outer, nam
 // Node doesn't tell the processor time of another process that has ended.
 function program() {
   fs.accessSync(PROGRAM, fs.constants.X_OK);
-  const command = 'LC_ALL=C TIMEFORMAT="%U %S"; time "$0" compose --relative --thin --used';
+  const command = 'LC_ALL=C TIMEFORMAT="%R %U %S"; time "$0" compose --relative --thin --used';
   const entry = (url, map) => `map ${url} ${url}.map ${Buffer.byteLength(map)}\n${map}\n`;
   return ({ outer, maps }) => {
     const script = 'http://h/m/out.js';
@@ -84,16 +85,17 @@ function program() {
     const input = [entry(script, outer), ...others, 'end\n'].join('');
     const ran = spawnSync('bash', ['-c', command, PROGRAM], { input, encoding: 'utf8', maxBuffer: 2 ** 30 });
     if (ran.status !== 0) throw new Error(`${PROGRAM}: ${ran.stdout}${ran.stderr}`);
-    const [user, system] = ran.stderr.split(' ').map(Number);
-    return { took: 1000 * (user + system), answer: ran.stdout };
+    const [passed, user, system] = ran.stderr.split(' ').map(seconds => 1000 * seconds);
+    return { took: user + system, passed, answer: ran.stdout };
   };
 }
 
+const COMPOSE = '`smap compose --thin --used`', REMAPPING = '`@ampproject/remapping`';
 const COMPOSERS = {
   '`smap/remapping`': () => remaps(addon('remapping.js')),
   '`smap/remapping`, as WebAssembly': () => remaps(wasm('remapping.js')),
-  '`@ampproject/remapping`': () => remaps(require('@ampproject/remapping')),
-  '`smap compose --thin --used`': program,
+  [REMAPPING]: () => remaps(require('@ampproject/remapping')),
+  [COMPOSE]: program,
 };
 
 // Where some positions lead, by Node's own reader.
@@ -116,32 +118,42 @@ const WORKS = [
 // In a process of its own.
 function measure(work, name, size) {
   const [, by, , input, told] = WORKS[work];
-  const { took, answer } = by[name]()(input(size));
-  return { took, told: told(answer) };
+  const { answer, ...times } = by[name]()(input(size));
+  return { ...times, told: told(answer) };
 }
 
 const areAlike = (one, other) => one.every((at, i) => at === null || other[i] === null || at === other[i]);
 
-// The least time of each. In turn, since what else runs on the machine changes.
+// The least times of each. In turn, since what else runs on the machine changes.
 function leastOf(work, names, size, runs) {
   const rounds = list(runs, () => names.map(name => answerOf(__filename, '--measure', work, name, size)));
   return names.map((name, i) => {
     if (!areAlike(rounds[0][0].told, rounds[0][i].told)) throw new Error(`${name} and ${names[0]} differ`);
-    return shown(Math.min(...rounds.map(round => round[i].took)));
+    const least = time => Math.min(...rounds.map(round => round[i][time]));
+    return { took: least('took'), passed: least('passed') };
   });
 }
 
+// How much time passes in the program and in the other package, of the figures of those that compose.
+function besides(figures, names) {
+  const [own, other] = [COMPOSE, REMAPPING].map(name => figures[names.indexOf(name)]?.passed);
+  if (!own || !other) return [];
+  const share = shown(own / other);
+  return ['', `In ${COMPOSE} ${shown(own)} ms pass, in ${REMAPPING} ${shown(other)}: ${share} times as many.`];
+}
+
 function table(runs) {
-  const lines = ['| what | by | ms |', '|---|---|---|'];
+  const lines = ['| what | by | ms |', '|---|---|---|'], notes = [];
   const there = thoseThere({ ...MAKERS, ...COMPOSERS });
   for (const [work, [what, by, sizes]] of WORKS.entries()) {
     const names = there.filter(name => name in by);
     const figures = sizes.map(size => leastOf(work, names, size, runs));
     names.forEach((name, i) => {
-      lines.push(`| ${i ? '' : what} | ${name} | ${figures.map(all => all[i]).join(' / ')} |`);
+      lines.push(`| ${i ? '' : what} | ${name} | ${figures.map(all => shown(all[i].took)).join(' / ')} |`);
     });
+    notes.push(...besides(figures[0], names));
   }
-  return [...lines, '', measuredWith()].join('\n');
+  return [...lines, ...notes, '', measuredWith()].join('\n');
 }
 
 function main([word, work, name, size]) {
