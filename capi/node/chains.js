@@ -1,107 +1,111 @@
 'use strict';
 // What @ampproject/remapping offers, over libsmap: one map out of a chain of maps.
-const { mappingsOf } = require('./decoded.js');
 const { SourceMap } = require('./index.js');
-const { indices } = require('./lists.js');
+const { parse } = require('./lists.js');
 const { TraceMap, decodedMappings, encodedMappings } = require('./trace-map.js');
 
-// Each source of each map is below this, by its number among all: so no two of them are taken for one.
+// Sources are below this: so libsmap takes those for one that have one number here.
 const BASE = 'http://smap.invalid/';
 
 // How deep maps may lead on. A loader that goes by names alone leads on for ever where a source is called like
 // the text that is made of it.
 const DEEPEST = 256;
 
+// What a text stands for, and the text without its mappings; or null, as where these are in sections.
+function cut(text) {
+  let flat;
+  try {
+    flat = parse(text);
+  } catch {
+    return null; // libsmap says what is wrong
+  }
+  const literal = `"${flat?.mappings}"`, at = text.indexOf(literal);
+  const isFound = at >= 0 && /"mappings"\s*:\s*$/.test(text.slice(Math.max(0, at - 99), at));
+  return isFound ? { flat, text: `${text.slice(0, at)}""${text.slice(at + literal.length)}` } : null;
+}
+
+// A map, and what is known of it. The mappings of a text are read once, with numbers for its sources.
+function read(given, url) {
+  const { flat, text } = (typeof given === 'string' && cut(given)) || { flat: {}, text: given };
+  return { map: new TraceMap(text, url), flat };
+}
+
 class Chain {
   #load;
-  #all = []; // the sources of all maps: those that no map leads on from, by name, content and flag
+  #ends = []; // the sources that no map leads on from, each name and content once
+  #numbers = new Map(); // theirs: by content, in a map by name
 
   constructor(load) {
     this.#load = load;
   }
 
-  // The map with each of its sources a number; and the maps of some, by their numbers in it, followed.
-  #composed(map, ignored, inner) {
-    const first = this.#all.length - map.sources.length;
+  #numberOf(source, content) {
+    if (!this.#numbers.has(source)) this.#numbers.set(source, new Map());
+    const numbers = this.#numbers.get(source);
+    if (!numbers.has(content)) numbers.set(content, this.#ends.push({ source, content }) - 1);
+    return numbers.get(content);
+  }
+
+  // The map with these numbers for sources, of which some have maps, by their place: those are followed.
+  #composed({ map, flat }, numbers, ignored, inner) {
     const own = new SourceMap({
       version: 3,
-      sources: map.sources.map((_, i) => String(first + i)),
-      names: map.names,
+      sources: numbers.map((number, i) => (inner.has(i) ? `followed${i}` : String(number))),
+      names: flat.names ?? map.names,
       ignoreList: ignored,
-      mappings: encodedMappings(map),
+      mappings: flat.mappings ?? encodedMappings(map),
     }, BASE);
     if (inner.size === 0) return own;
     try {
-      return own.compose(inner);
+      const { listedSources } = own;
+      return own.compose(new Map(Array.from(inner, ([i, one]) => [listedSources[i], one])));
     } finally {
       for (const one of [own, ...inner.values()]) one.close();
     }
   }
 
   /** A map, and what the loader has for its sources. */
-  tree(map, importer, importerDepth) {
+  tree(given, importer, importerDepth) {
     const depth = importerDepth + 1;
     if (depth > DEEPEST) throw new RangeError(`maps lead on more than ${DEEPEST} deep, as to ${importer}`);
-    const inner = new Map(), ignored = [], ends = [];
+    const { map } = given;
+    const inner = new Map(), ignored = [], numbers = [];
     map.resolvedSources.forEach((name, i) => {
-      const given = { importer, depth, source: name || '', content: undefined, ignore: undefined };
-      const found = this.#load(given.source, given);
-      const { source, content, ignore } = given;
-      if (found) inner.set(i, this.tree(new TraceMap(found, source), source, depth));
+      const told = { importer, depth, source: name || '', content: undefined, ignore: undefined };
+      const found = this.#load(told.source, told);
+      const { source, content, ignore } = told;
+      if (found) inner.set(i, this.tree(read(found, source), source, depth));
       const isIgnored = map.ignoreList?.includes(i) ?? false;
       if (found ? isIgnored : ignore ?? isIgnored) ignored.push(i);
-      ends.push({ source, content: content === undefined ? map.sourcesContent?.[i] ?? null : content });
+      const ownContent = content === undefined ? map.sourcesContent?.[i] ?? null : content;
+      numbers.push(found ? null : this.#numberOf(source, ownContent));
     });
-    this.#all.push(...ends);
-    return this.#composed(map, ignored, inner);
+    return this.#composed(given, numbers, ignored, inner);
   }
 
   /** A map of one source, which has this map. */
-  around(map, inner) {
-    this.#all.push(...map.sources.map(() => null));
-    return this.#composed(map, map.ignoreList ?? [], new Map(map.sources.map((_, i) => [i, inner])));
+  around(given, inner) {
+    const { sources, ignoreList } = given.map;
+    return this.#composed(given, sources, ignoreList ?? [], new Map(sources.map((_, i) => [i, inner])));
   }
 
   /** The sources of a composed map, in its order. */
   endsOf(map) {
-    return map.sources.map((url, i) => ({ ...this.#all[url.slice(BASE.length)], isIgnored: map.isIgnored(i) }));
+    return map.sources.map((url, i) => ({ ...this.#ends[url.slice(BASE.length)], isIgnored: map.isIgnored(i) }));
   }
-}
-
-// For each source the first one like it: of the same name, content and flag.
-function firstsOf(ends) {
-  const names = new Map();
-  const within = (map, key) => map.get(key) ?? map.set(key, new Map()).get(key);
-  return ends.map(({ source, content, isIgnored }, i) => {
-    const flags = within(within(names, source), content);
-    if (!flags.has(isIgnored)) flags.set(isIgnored, i);
-    return flags.get(isIgnored);
-  });
-}
-
-// The mappings with these numbers of sources.
-function renumbered(lines, numbers) {
-  const moved = ([column, source, ...rest]) => [column, numbers[source], ...rest];
-  return lines.map(line => line.map(segment => (segment.length === 1 ? segment : moved(segment))));
 }
 
 class Remapped {
   constructor(map, file, ends, { excludeContent, decodedMappings: isDecoded }) {
     const flat = JSON.parse(map.flatten());
-    const firsts = firstsOf(ends);
-    const kept = ends.filter((_, i) => firsts[i] === i);
-    const places = indices(kept);
-    const isSame = kept.length === ends.length;
-    const lines = isDecoded || !isSame ? decodedMappings(new TraceMap(flat)) : null;
-    const told = isSame ? lines : renumbered(lines, firsts.map(i => places.get(ends[i])));
     this.version = 3;
     this.file = file;
-    this.mappings = isDecoded ? told : isSame ? flat.mappings : mappingsOf(told).spelled();
+    this.mappings = isDecoded ? decodedMappings(new TraceMap(flat)) : flat.mappings;
     this.names = flat.names;
     this.sourceRoot = undefined;
-    this.sources = kept.map(({ source }) => source || null);
-    if (!excludeContent) this.sourcesContent = kept.map(({ content }) => content);
-    const ignored = [...kept.keys()].filter(i => kept[i].isIgnored);
+    this.sources = ends.map(({ source }) => source || null);
+    if (!excludeContent) this.sourcesContent = ends.map(({ content }) => content);
+    const ignored = [...ends.keys()].filter(i => ends[i].isIgnored);
     if (ignored.length) this.ignoreList = ignored;
   }
 
@@ -114,10 +118,10 @@ const ONE = 'must have exactly one source file.\n' +
   'Did you specify these with the most recent transformation maps first?';
 
 function remapping(input, loader, options) {
-  const maps = (Array.isArray(input) ? input : [input]).map(map => new TraceMap(map, ''));
-  const { file } = maps[0];
+  const maps = (Array.isArray(input) ? input : [input]).map(map => read(map, ''));
+  const { file } = maps[0].map;
   const last = maps.pop();
-  maps.forEach((map, i) => {
+  maps.forEach(({ map }, i) => {
     if (map.sources.length > 1) throw new Error(`Transformation map ${i} ${ONE}`);
   });
   const chain = new Chain(loader);

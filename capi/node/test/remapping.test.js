@@ -82,6 +82,20 @@ test('a loader is told of each source, and may change it', () => {
   assert.deepEqual(remapping(outer, load, { decodedMappings: true }).mappings, [[[0, 0, 0, 0], [1, 1, 0, 0]]]);
 });
 
+test('the mappings of a text, wherever and however they are written', () => {
+  const text = '"version":3,"sources":["AAAAA"],"names":["AAAAA"],"mappings" :"AAAAA"}';
+  const texts = [`{${text}`, `)]}'\n{${text}`, `{"mappings":"AAAAA",${text}`, `{"mappings":"A",${text}`,
+    `{"x":{"mappings":"AAAAA"},${text}`, `{${text.replace(/"AAAAA"}/, '"AAAA\\u0041"}')}`];
+  for (const one of texts) {
+    const { mappings, names, sources } = remapping(one, () => null);
+    assert.deepEqual([mappings, names, sources], ['AAAAA', ['AAAAA'], ['AAAAA']], one);
+  }
+  const wrong = { '"AAAAA"}': '"AAAAA!"}', '"mappings"': '"none"', '3,': '3.0,', '"}': '"', 'A"]': 'A",7]' };
+  for (const [good, bad] of Object.entries(wrong)) {
+    assert.throws(() => remapping(`{${text.replace(good, bad)}`, () => null), SmapError, bad);
+  }
+});
+
 test('sources that a loader calls alike are one', () => {
   const outer = map(['a', 'b', 'c'], 'AAAA,CCAA,CCAA,C');
   const same = (file, given) => void (given.source = file === 'b' ? 'b' : 'a');
@@ -89,6 +103,12 @@ test('sources that a loader calls alike are one', () => {
   assert.deepEqual(told(made), ['AAAA,CCAA,CDAA,C', ['a', 'b']]);
   assert.deepEqual(remapping(outer, same, { decodedMappings: true }).mappings,
     [[[0, 0, 0, 0], [1, 1, 0, 0], [2, 0, 0, 0], [3]]]);
+  const alike = (file, given) => void (given.source = 'a');
+  assert.deepEqual(told(remapping(map(['a', 'b'], 'AAAA,CCAA'), alike)), ['AAAA', ['a']]);
+  assert.deepEqual(told(remapping(map(['a', 'b'], 'AAAA,CCAA', { ignoreList: [1] }), alike)),
+    ['AAAA,CCAA', ['a', 'a']]);
+  const last = (file, given) => (file === 'm.js' ? map(['n.ts'], 'AACA') : alike(file, given));
+  assert.deepEqual(told(remapping(map(['a', 'b', 'm.js'], 'AAAA,CCAA,CCAA'), last)), ['AAAA,EACA', ['a']]);
 });
 
 test('of several maps all but the last have one source', () => {
