@@ -4,6 +4,7 @@ const assert = require('node:assert');
 const fs = require('node:fs');
 const path = require('node:path');
 const { test } = require('node:test');
+const v8 = require('node:v8');
 const { SmapError } = require('../errors.js');
 const { file, instance, load } = require('../wasm.js');
 const { WIDE } = require('../wide.js');
@@ -32,10 +33,12 @@ test('the calls are those of the addon', { skip: is.skip || isHere(addon, 'build
   assert.deepEqual(of(native, ['isWasm', 'limit']), of(require(addon), ['told']));
 });
 
-test("Node's flag is taken back", is, () => {
-  const before = WebAssembly.validate(WIDE);
+test("Node's flags are taken back", is, () => {
+  // The tag tells of all flags.
+  const flags = () => [WebAssembly.validate(WIDE), v8.cachedDataVersionTag()];
+  const before = flags();
   load();
-  assert.equal(WebAssembly.validate(WIDE), before);
+  assert.deepEqual(flags(), before);
 });
 
 test('the heap keeps what is in its blocks, and wastes little', isTest, () => {
