@@ -6,6 +6,7 @@ complete -c smap-trace -l anywhere -d 'Find positions anywhere in a line, as wit
 complete -c smap-trace -l hide-ignored -d 'Leave out frames in ignored sources (libraries, mostly)'
 complete -c smap-trace -l skip-broken -d 'Leave out maps that smap refuses, naming each; the status is 0 then'
 complete -c smap-trace -l strict -d 'Stop where smap refuses a map. Of logs that are files nothing is translated then'
+complete -c smap-trace -l no-chain -d 'Stop at the first source, also where that has a map of its own'
 complete -c smap-trace -l check-all -d 'Check every map, those too whose scripts the log doesn\'t name'
 complete -c smap-trace -l list -d 'List the scripts that the log names: how often, and whether each has a map'
 complete -c smap-trace -x -l explain -d 'Say step by step why POSITION, or the line of a log, becomes that of a source, or stays'

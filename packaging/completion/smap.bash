@@ -17,7 +17,7 @@ smap scripts: --help
 smap translate: --hide-ignored --anywhere --ignore-query --names --help
 smap compose: --relative --thin --used --help
 smap-events: --no-raw --names --context --version --help
-smap-trace: --frames-only --anywhere --hide-ignored --skip-broken --strict --check-all --list --explain --names --context --url-bytes --source-prefix --quiet --verbose --version --help
+smap-trace: --frames-only --anywhere --hide-ignored --skip-broken --strict --no-chain --check-all --list --explain --names --context --url-bytes --source-prefix --quiet --verbose --version --help
 smap-maps: --version --help
 smap-maps check: --base --json --url-bytes --version --help
 smap-maps tidy: --base --absolute --relative --write --drop --diff --json --url-bytes --version --help

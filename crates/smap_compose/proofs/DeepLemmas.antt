@@ -1,10 +1,12 @@
 -- Maps whose sources lead on, level by level.
-use Rattle.std.proofs.Common.{◌≡◌, ◌∙◌, ℕ, List, Option, Some, None, ap, map, refl, slice_get, sym}
+use Rattle.std.proofs.Common.{◌≡◌, ◌∙◌, ℕ, zero, suc, List, [], ◌∷◌, ◌++◌, Option, Some, None, ap}
+use Rattle.std.proofs.Common.{drop, map, refl, slice_get, sym, take}
 use Rattle.std.specs.Prelude.{option_and_then, option_map}
+use Rattle.std.specs.Global.{Vec}
 use Rattle.std.proofs.lemmas.Option.{slice_get-map}
 use Rattle.smap_record.specs.Record.{ReadMap, Record, record_of}
 use Rattle.smap_compose.specs.Composing.{Maps}
-use Rattle.smap_compose.specs.Deep.{Lead, composed}
+use Rattle.smap_compose.specs.Deep.{Lead, by_numbers, composed, each_by_numbers, numbers_at}
 use Rattle.smap_compose.specs.Numbered.{maps_of}
 use Rattle.smap_compose.proofs.ClosingLemmas.{Agree}
 use Rattle.smap_compose.proofs.StandingLemmas.{map_at}
@@ -31,3 +33,23 @@ agree_deep m inner maps numbers n find lead same i e at =
     map_at m inner numbers i e at
     ∙ (ap (λ (rs : List Record). option_and_then (slice_get rs) o) same
     ∙ (found_in_all (composed n find) maps o ∙ ap (option_map (composed n find)) (lead i e at)))
+
+-- ---- by numbers alone
+
+next_number : (leads : List (Vec (Option ℕ))) (k : ℕ) → numbers_at (drop 1 leads) k ≡ numbers_at leads (suc k)
+next_number [] k = refl
+next_number (v ∷ leads) k = refl
+
+-- One more map with its numbers.
+pub each_next : (maps : List ReadMap) (leads : List (Vec (Option ℕ))) (inner : List Record) (k : ℕ)
+    (m : ReadMap) → slice_get maps k ≡ Some m
+    → each_by_numbers (take (suc k) maps) leads inner
+    ≡ each_by_numbers (take k maps) leads inner ++ by_numbers m (numbers_at leads k) inner ∷ []
+each_next [] leads inner k m at = cc
+each_next (x ∷ maps) leads inner zero m at =
+    let same : x ≡ m = cc in ap (λ (y : ReadMap). by_numbers y (numbers_at leads 0) inner ∷ []) same
+each_next (x ∷ maps) leads inner (suc k) m at =
+    ap (λ (rs : List Record). by_numbers x (numbers_at leads 0) inner ∷ rs)
+    (each_next maps (drop 1 leads) inner k m at
+    ∙ ap (λ (ns : List (Option ℕ)).
+    each_by_numbers (take k maps) (drop 1 leads) inner ++ by_numbers m ns inner ∷ []) (next_number leads k))

@@ -6,14 +6,20 @@ use Rattle.smap_record.specs.Record.{Allowed, Entry, ReadMap, Record, record_of,
 use Rattle.smap_record.specs.Fitting.{names_used}
 use Rattle.smap_compose.specs.Composing.{Maps, composition, sources_through}
 
--- the map that the i-th number names, if there is one
-abbrev pub led_at : List ReadMap → List (Option ℕ) → ℕ → Option Record
-led_at inner leads i = option_and_then (slice_get (map record_of inner))
-    (option_and_then (λ l. l) (slice_get leads i))
+-- which of these the i-th number names, if there is one
+abbrev pub named_at : List (Option ℕ) → List Record → ℕ → Option Record
+named_at leads inner i = option_and_then (slice_get inner) (option_and_then (λ l. l) (slice_get leads i))
 
--- Of the i-th of these sources, the map that the i-th number names.
+-- Of the i-th of these sources, the one that the i-th number names.
+abbrev pub numbered : List Entry → List (Option ℕ) → List Record → Maps
+numbered sources leads inner e = named_at leads inner (position_or_len (same_entry e) sources)
+
+-- the same of maps as they are read
+abbrev pub led_at : List ReadMap → List (Option ℕ) → ℕ → Option Record
+led_at inner leads i = named_at leads (map record_of inner) i
+
 abbrev pub maps_by : List Entry → List ReadMap → List (Option ℕ) → Maps
-maps_by sources inner leads e = led_at inner leads (position_or_len (same_entry e) sources)
+maps_by sources inner leads = numbered sources leads (map record_of inner)
 
 -- the maps of the sources of a map, by numbers
 abbrev pub maps_of : ReadMap → List ReadMap → List (Option ℕ) → Maps

@@ -2,8 +2,9 @@
 ghost use Rattle.std.specs.Prelude.{◌≡◌, ◌+◌, IfOk, List, ℕ, map as mapped};
 ghost use Rattle.smap_record.specs.Record.{ReadMap, record_of};
 ghost use Rattle.smap_trace.specs.LineStarts.{line_starts};
-ghost use Rattle.smap_compose.specs.Composing.{Maps, composition};
-ghost use Rattle.smap_compose.specs.Deep.{AllLead, Lead, composed, numbers_at};
+ghost use Rattle.smap_compose.specs.Composing.{Maps};
+ghost use Rattle.smap_compose.specs.Deep.{AllLead, Lead, by_numbers, composed, each_by_numbers, levels};
+ghost use Rattle.smap_compose.specs.Deep.{numbers_at};
 ghost use Rattle.smap_compose.specs.Deep as spec;
 
 use crate::composing::compose_by;
@@ -27,8 +28,8 @@ fn compose_one(
         → Lead maps find map.now numbers.now
         → mapped record_of inner.now ≡ mapped (λ x. composed n find (record_of x)) maps
         → record_of m ≡ composed (n + 1) find (record_of map.now)) }
-    ensures some { IfOk result (λ m. (found : Maps)
-        × (record_of m ≡ composition (record_of map.now) found)) }
+    ensures numbers { IfOk result (λ m.
+        record_of m ≡ by_numbers map.now numbers.now (mapped record_of inner.now)) }
 {
     // What this call promises besides the count: the sources of a map's mappings are listed.
     let _ = map.token_count();
@@ -53,9 +54,11 @@ fn compose_each(
     leads: &[Vec<Option<usize>>],
     limits: Limits,
 ) -> Result<Vec<SourceMap>, ComposeError>
-    ensures { IfOk result (λ all. (n : ℕ) (find : Maps) → AllLead maps.now find leads.now
+    ensures deep { IfOk result (λ all. (n : ℕ) (find : Maps) → AllLead maps.now find leads.now
         → mapped record_of inner.now ≡ mapped (λ x. composed n find (record_of x)) maps.now
         → mapped record_of all.items ≡ mapped (λ x. composed (n + 1) find (record_of x)) maps.now) }
+    ensures numbers { IfOk result (λ all.
+        mapped record_of all.items ≡ each_by_numbers maps.now leads.now (mapped record_of inner.now)) }
 {
     let tables = tables(alloc, inner)?;
     let mut all = Vec::with_capacity(alloc, maps.len())?;
@@ -85,10 +88,12 @@ fn composed_once_more(
     leads: &[Vec<Option<usize>>],
     limits: Limits,
 ) -> Result<Vec<SourceMap>, ComposeError>
-    ensures { IfOk result (λ all. (n : ℕ) (find : Maps) → AllLead maps.now find leads.now
+    ensures deep { IfOk result (λ all. (n : ℕ) (find : Maps) → AllLead maps.now find leads.now
         → mapped record_of (spec.latest maps.now closed)
         ≡ mapped (λ x. composed n find (record_of x)) maps.now
         → mapped record_of all.items ≡ mapped (λ x. composed (n + 1) find (record_of x)) maps.now) }
+    ensures numbers { IfOk result (λ all. mapped record_of all.items
+        ≡ each_by_numbers maps.now leads.now (mapped record_of (spec.latest maps.now closed))) }
 {
     compose_each(alloc, maps, latest(maps, &closed), leads, limits)
 }
@@ -115,8 +120,8 @@ pub fn compose_deep(
     ensures deep { IfOk result (λ m. (find : Maps) → Lead maps.now find outer.now numbers.now
         → AllLead maps.now find leads.now
         → record_of m ≡ composed (below + 1) find (record_of outer.now)) }
-    ensures some { IfOk result (λ m. (found : Maps)
-        × (record_of m ≡ composition (record_of outer.now) found)) }
+    ensures levels { IfOk result (λ m.
+        record_of m ≡ by_numbers outer.now numbers.now (levels maps.now leads.now below)) }
 {
     let mut closed = None;
     for level in 0..below {

@@ -1,5 +1,6 @@
 //! A folder and the names of its files.
 use crate::refusing::{refuse_empty, refuse_path};
+use smap_chains::has_no_size;
 use smap_link::file_url;
 use smap_system::{Disk, FileFault, Host, Kind, LIMIT, Stop, parted, read_file, reason, walk};
 use std::alloc::{AllocError, Global};
@@ -137,12 +138,6 @@ impl Folder {
             Err(_) => None,
         }
     }
-}
-
-/// Whether a file is empty by its size. So are streams, as those of `/proc`, which may have no end: nothing
-/// with that size is opened.
-pub(crate) fn has_no_size<D: Disk>(disk: &D, path: &str) -> bool {
-    matches!(disk.size(path), Ok(0))
 }
 
 /// What a file holds; none if it can't be read, which is said.

@@ -1,9 +1,9 @@
 //! The sources of a map that are scripts with maps of their own.
 use crate::case::Case;
-use crate::source_maps::{Lead, lead_of, source_text};
+use smap_chains::{Lead, source_lead};
 use smap_lint_rules::Wrong;
 use smap_map_files::{Home, Target};
-use smap_record::{SourceMap, SourceView};
+use smap_record::SourceMap;
 use smap_system::Disk;
 use std::alloc::{AllocError, Global};
 
@@ -50,32 +50,17 @@ impl Case<'_, '_> {
         }
     }
 
-    /// What a source of the map names for its own.
-    fn lead<D: Disk>(
-        &self,
-        disk: &D,
-        script: &[u8],
-        source: SourceView<'_>,
-    ) -> Result<Option<Lead>, AllocError> {
-        let alloc = self.book.alloc;
-        let url = source.url.unwrap_or("");
-        match source_text(alloc, disk, self.home(), script, source)? {
-            Some(text) => lead_of(alloc, disk, self.home(), url, text.bytes()),
-            None => Ok(None),
-        }
-    }
-
     /// What is known of the sources of the map that are scripts.
     pub(crate) fn look_for_scripts<D: Disk>(
         &self,
         disk: &D,
         map: &SourceMap,
     ) -> Result<Open, AllocError> {
-        let script = self.own_script()?;
-        let mut open = Open::new(self.book.alloc);
+        let (alloc, script) = (self.book.alloc, self.own_script()?);
+        let mut open = Open::new(alloc);
         for number in 0..map.source_count() {
             let source = map.source(number);
-            if let Some(lead) = self.lead(disk, &script, source)? {
+            if let Some(lead) = source_lead(alloc, disk, self.home(), &script, source)? {
                 open.add(number, source.content.is_none(), lead);
             }
         }

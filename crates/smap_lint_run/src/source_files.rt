@@ -1,6 +1,6 @@
 //! The files of sources.
 use crate::case::Case;
-use crate::folder::has_no_size;
+use smap_chains::has_no_size;
 use smap_link::{PathFault, file_path, script_url};
 use smap_lint_rules::{Wrong, normal_text, same_text};
 use smap_record::{SourceMap, SourceView};

@@ -1,7 +1,7 @@
 -- What a file gives for a map: itself, or the map that it names where it is a script or a style sheet
 -- (ECMA-426, "Linking generated code to source maps").
 use Rattle.std.specs.Prelude.{◌≡◌, ◌⊎◌, ℕ, ◌-◌, ◌==◌, ◌&&◌, Bool, false, true, not, nat_eq}
-use Rattle.std.specs.Prelude.{List, [], codes, cond, drop, length, take, ⊤}
+use Rattle.std.specs.Prelude.{List, [], ◌++◌, codes, cond, drop, length, take, ⊤}
 use Rattle.std.specs.Prelude.{Option, Some, None, option_and_then, option_map, unwrap_or, Result, Ok, Err}
 use Rattle.std.specs.Prelude.{IsErr}
 use Rattle.std.specs.Global.{Vec}
@@ -20,7 +20,7 @@ use Rattle.smap_link.specs.Urls.{is_slash}
 use Rattle.smap_link.specs.declared.resolve.LinkFault.{LinkFault}
 use Rattle.smap_map_choice.specs.Linked.{linked}
 use Rattle.smap_map_choice.specs.Named.{IsGarbled, IsInline, is_vain}
-use Rattle.smap_map_choice.specs.Places.{MapPlace, below}
+use Rattle.smap_map_choice.specs.Places.{MapPlace, below, is_open}
 use Rattle.smap_mappings.specs.Widths.{script_widths}
 use Rattle.smap_system.specs.Held.{Held}
 use Rattle.smap_record.specs.Ends.{ended_map}
@@ -191,6 +191,10 @@ folder_url url = or_root (take (length url - last_size url) url)
 -- The path of the folder of a file: what stands before the last slash, or that of the root.
 abbrev pub folder_path : List ℕ → List ℕ
 folder_path file = unwrap_or (option_map (λ split. or_root split.0) (rsplit_once slash file)) []
+
+-- What stands before the name of each file in a folder with this path.
+abbrev pub front : List ℕ → List ℕ
+front folder = cond (is_open folder) folder (folder ++ codes "/")
 
 -- The folder of a script that is named by itself.
 abbrev pub own_folder : MapPlace → Folder

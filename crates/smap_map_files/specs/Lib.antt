@@ -1,5 +1,6 @@
 pub mod Chosen
 pub mod Given
+pub mod Homes
 pub mod Lists
 pub mod Naming
 pub mod Opened

@@ -1,12 +1,11 @@
 //! The map that a script names.
-ghost use Rattle.std.specs.Prelude.{◌≡◌, ◌≤◌, IfOk, length};
+ghost use Rattle.std.specs.Prelude.{◌≡◌, ◌≤◌, IfOk, length, string_bytes};
 ghost use Rattle.smap_map_choice.specs.PlaceView.{place_in};
 ghost use Rattle.smap_map_files.specs.Given as spec;
 ghost use Rattle.smap_map_files.specs.Given.{IsFollowed};
 ghost use Rattle.smap_map_files.specs.RootView.{folder_of};
 
 use crate::Root;
-use crate::bases::with_slash;
 use crate::target::{Absence, Home, Target, target_of};
 use smap_link::{LinkFault, bare, link_in, resolved};
 use smap_map_choice::{NamedFault, Place, below};
@@ -38,7 +37,7 @@ fn last_size(url: &[u8]) -> usize
 }
 
 /// The URL of the folder of what has this one.
-fn folder_url<'a>(url: &'a [u8]) -> &'a [u8]
+pub(crate) fn folder_url<'a>(url: &'a [u8]) -> &'a [u8]
     ensures { result.now ≡ spec.folder_url url.now }
 {
     let size = url.len() - last_size(url);
@@ -66,7 +65,7 @@ pub(crate) fn folder_path<'a>(file: &'a str) -> &'a str
 }
 
 /// The name of a file below a folder with this path.
-fn name_below<'a>(path: &str, file: &'a [u8]) -> &'a [u8]
+pub(crate) fn name_below<'a>(path: &str, file: &'a [u8]) -> &'a [u8]
     ensures { result.now ≡ spec.name_below path.now file.now }
 {
     let rest = match file.strip_prefix(path.as_bytes()) {
@@ -80,11 +79,13 @@ fn name_below<'a>(path: &str, file: &'a [u8]) -> &'a [u8]
 }
 
 /// What stands before the name of each file in a folder with this path.
-fn front(alloc: Global, folder: &str) -> Result<String, AllocError> {
-    if folder.is_empty() {
-        return Ok(String::new(alloc));
+pub(crate) fn front(alloc: Global, folder: &str) -> Result<String, AllocError>
+    ensures { IfOk result (λ front. string_bytes front ≡ spec.front folder.now) }
+{
+    if folder.is_empty() || folder.ends_with('/') {
+        return String::from_str(alloc, folder);
     }
-    with_slash(alloc, folder)
+    format!(in alloc; "{folder}/")
 }
 
 /// What a script names that is wrong, as in a sentence after "it".

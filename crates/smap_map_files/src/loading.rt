@@ -37,6 +37,8 @@ pub struct Reading {
     pub url_bytes: usize,
     /// Whether one that is refused is mended, if the closed list of repairs suffices.
     pub mends: bool,
+    /// Whether the maps that its sources lead to are followed.
+    pub chains: bool,
 }
 
 /// What a file gives for a map.

@@ -10,8 +10,12 @@ use smap_record::Kind;
 use smap_system::{Disk, Host, Stop, printable};
 use std::alloc::{AllocError, Global};
 
-/// Says something of a map: its file, its script, and what.
-pub(crate) fn say_of<E: Eprint + AllocGlobal, D: Disk>(
+/// Says something of a map: its file, its script, and what, as after the one in parentheses.
+///
+/// # Errors
+///
+/// `Stop::Memory` alone.
+pub fn say_of<E: Eprint + AllocGlobal, D: Disk>(
     host: &Host<'_, E, D>,
     place: &Place,
     what: &str,

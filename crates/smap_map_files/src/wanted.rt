@@ -79,6 +79,7 @@ impl<'a> Wanted<'a> {
             reading: Reading {
                 url_bytes: 0,
                 mends: false,
+                chains: false,
             },
         }
     }

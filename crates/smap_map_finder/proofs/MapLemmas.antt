@@ -1,21 +1,13 @@
 -- The map that is kept for a name of a log is the one that the name has.
-use Rattle.std.proofs.Common.{◌≡◌, sym, Some, None, ℕ, Bool, true, false, cond, List, subst, refl, inr}
-use Rattle.std.proofs.Common.{Option, Result, Ok, Err, IfOk}
-use Rattle.std.specs.Prelude.{IfNone, IfSome, MatchOption}
+use Rattle.std.proofs.Common.{◌≡◌, sym, Some, ℕ, Bool, true, false, cond, List, subst, refl}
 use Rattle.smap_system.specs.Held.{Held}
 use Rattle.smap_map_choice.specs.declared.picks.Found.{Found}
 use Rattle.smap_map_choice.specs.declared.picks.Found.TheVariants.{Given, ByEnd, Unclear, Missing}
-use Rattle.smap_map_choice.specs.Picks.{found_place}
-use Rattle.smap_map_choice.specs.Places.{MapPlace}
 use Rattle.smap_record.specs.Record.{ReadMap}
 use Rattle.smap_map_finder.proofs.ChoiceLemmas.{one_of}
-use Rattle.smap_map_finder.specs.Choice.{IsOpenedAs, IsUnopened, files_of, has_base, places_of, root_of}
 use Rattle.smap_map_finder.specs.Choice.{IsChoice, IsMapOf, IsOpenedFor, IsPicked, may_end_alike, within_ends}
 use Rattle.smap_map_finder.specs.ChosenView.{AreChosen, Choices, IsFor, IsServedBy, IsTried, Serves, map_in}
 use Rattle.smap_map_finder.specs.declared.chosen.Opening.{Opening}
-use Rattle.smap_map_files.specs.Given.{Folder}
-use Rattle.smap_map_files.specs.Opened.{GivesNone, IsOpened}
-use Rattle.smap_map_files.specs.declared.loading.Reading.{Reading}
 use Rattle.smap_map_files.specs.declared.wanted.Wanted.{Wanted}
 
 none_given : (t : Bool) (found : Found) (i : ℕ) → Given i ≡ cond t found Missing → found ≡ Given i
@@ -61,7 +53,13 @@ served_map held w in_frames opened (Given i) name (Given j) m s p o =
       is_choice = given_choice held w in_frames name j p;
       other = name;
       alike = refl;
-      opened = record { place = own.place; is_place = own.is_place; opened = own.opened };
+      opened = record {
+        place = own.place;
+        is_place = own.is_place;
+        first = own.first;
+        opened = own.opened;
+        followed = own.followed;
+      };
     }
 served_map held w in_frames opened (ByEnd i) name (ByEnd j) m s p o = record {
   found = ByEnd j;
@@ -93,29 +91,3 @@ opened_map held w in_frames c number name found o m chosen picked served is =
     let tried = one_of (IsFor held w c.worst) c.openings o number chosen.openings served.0 in
     served_map held w in_frames o.name.items o.found name found m served.1 picked
     (subst (IsTried held w c.worst o.name.items o.found) is tried)
-
--- what was opened of the place of what a name has
-pub opened_so : {E : Type 0} (held : Held) (w : Wanted) (name : List ℕ) (found : Found) (place : MapPlace)
-    (how : Reading) (root : Option Folder) (has : Bool) (worst : ℕ) (result : Result (Option ReadMap) E)
-    → Some place ≡ found_place (places_of w) (files_of w) name found → root ≡ root_of w found
-    → has ≡ has_base w found → how ≡ w.reading
-    → IfOk result (λ o. MatchOption o (GivesNone how held root has place worst)
-    (IsOpened how held root has place))
-    → IfOk result (λ o. IfSome o (IsOpenedAs held w name found))
-opened_so held w name found place how root has worst (Ok (Some m)) at r b h is =
-    record { place = place; is_place = sym at; opened = rw (r, b, h) at is }
-opened_so held w name found place how root has worst (Ok None) at r b h is = tt
-opened_so held w name found place how root has worst (Err e) at r b h is = tt
-
--- or wasn't
-pub unopened_so : {E : Type 0} (held : Held) (w : Wanted) (name : List ℕ) (found : Found) (place : MapPlace)
-    (how : Reading) (root : Option Folder) (has : Bool) (worst : ℕ) (result : Result (Option ReadMap) E)
-    → Some place ≡ found_place (places_of w) (files_of w) name found → root ≡ root_of w found
-    → has ≡ has_base w found → how ≡ w.reading
-    → IfOk result (λ o. MatchOption o (GivesNone how held root has place worst)
-    (IsOpened how held root has place))
-    → IfOk result (λ o. IfNone o (IsUnopened held w name found worst))
-unopened_so held w name found place how root has worst (Ok (Some m)) at r b h is = tt
-unopened_so held w name found place how root has worst (Ok None) at r b h is =
-    inr (place, sym at, rw (r, b, h) at is)
-unopened_so held w name found place how root has worst (Err e) at r b h is = tt

@@ -7,6 +7,7 @@ use Rattle.std.specs.Char.{is_ascii_alphanumeric}
 use Rattle.std.specs.Borrow.{Bor}
 use Rattle.std.specs.List.{All, list_all, list_any, prefix_len, slice_get, starts_with}
 use Rattle.smap_system.specs.Held.{Held}
+use Rattle.smap_chains.specs.Closing.{IsFollowed}
 use Rattle.smap_link.specs.Ends.{script_path, stem}
 use Rattle.smap_link.specs.Inline.{is_data}
 use Rattle.smap_link.specs.Kinds.{file_kind, link_in}
@@ -451,11 +452,13 @@ pub record AreFiles (held : Held) (w : Wanted) (in_frames : Bool) (names : List 
   pub are_picked : ArePicked held w in_frames names picks
   pub files_are : files ≡ map (λ p. file_of w p.found) picks
 
--- A map was opened by this name for this.
+-- A map was opened by this name for this, and followed to those that its sources lead to.
 pub record IsOpenedAs (held : Held) (w : Wanted) (name : List ℕ) (found : Found) (m : ReadMap) : Type 0 where
   pub place : MapPlace
   pub is_place : found_place (places_of w) (files_of w) name found ≡ Some place
-  pub opened : IsOpened w.reading held (root_of w found) (has_base w found) place m
+  pub first : ReadMap
+  pub opened : IsOpened w.reading held (root_of w found) (has_base w found) place first
+  pub followed : IsFollowed held w.reading (root_of w found) place first m
 
 -- None was opened by this name for this, and so much is the worst since: it has no place, or that gives none.
 abbrev pub IsUnopened : Held → Wanted → List ℕ → Found → ℕ → Type 0

@@ -2,6 +2,7 @@
 ghost use Rattle.std.specs.Prelude.{◌≡◌, ◌≤◌, IfNone, IfOk, IfSome, None};
 ghost use Rattle.std.specs.Prelude.{option_map};
 ghost use Rattle.smap_system.specs.Held.{Held};
+ghost use Rattle.smap_chains.specs.Closing.{IsFollowed};
 ghost use Rattle.smap_map_finder.specs.Choice.{IsOpenedAs, IsUnopened, files_of, places_of};
 ghost use Rattle.smap_map_finder.specs.Choice as spec;
 ghost use Rattle.smap_map_files.specs.RootView.{folder_of};
@@ -14,7 +15,9 @@ use crate::alike::Pair;
 use crate::copies::Compared;
 use crate::links::Links;
 use crate::roots::{has_base, root_of};
+use crate::telling::tell_remarks;
 use indexmap::IndexMap;
+use smap_chains::{Followed, follow};
 use smap_link::{ChoiceFault, ScriptTable};
 use smap_map_choice::{Found, Pick, Place, table_of, usual_place};
 use smap_map_files::{How, Subject, Wanted, copied, open_map_of};
@@ -119,6 +122,31 @@ impl<'a, E: Eprint + AllocGlobal, D: Disk> Search<'a, E, D> {
         let Some(subject) = self.subject_of(pick)? else {
             return Ok(None);
         };
-        open_map_of(self.host, self.how, &subject, worst)
+        let Some(map) = open_map_of(self.host, self.how, &subject, worst)? else {
+            return Ok(None);
+        };
+        let map = self.followed(&subject, map, worst)?;
+        Ok(Some(map))
+    }
+
+    /// A map with those that its sources lead to. That one isn't followed is said, and raises `worst` to the
+    /// status of a map that is refused.
+    fn followed(
+        &self,
+        subject: &Subject<'_>,
+        map: SourceMap,
+        worst: &mut u8,
+    ) -> Result<SourceMap, Stop>
+        ensures followed { IfOk result (IsFollowed (held_in D.held self.now) subject.now.reading
+            (folder_of subject.now.root) (place_in subject.now.place) map) }
+        ensures worst { worst.old ≤ worst.new }
+    {
+        let host = self.host;
+        let Followed { map, remarks } = follow(host.alloc(), host.disk, subject, map)?;
+        tell_remarks(host, self.how.verbose, &subject.place, &remarks)?;
+        if !remarks.faults.is_empty() {
+            *worst = (*worst).max(1);
+        }
+        Ok(map)
     }
 }

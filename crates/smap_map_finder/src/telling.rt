@@ -1,11 +1,13 @@
-//! What is said of names: which map one is taken for, and how many maps are opened.
+//! What is said of names: which map one is taken for, how many maps are opened, and where their sources lead.
 ghost use Rattle.std.specs.Prelude.{◌≡◌};
 ghost use Rattle.smap_map_finder.specs.ChosenView.{choices_of};
 
 use crate::chosen::Chosen;
 use crate::opening::Search;
+use smap_chains::Remarks;
 use smap_link::bare;
 use smap_map_choice::{Found, Pick, Place};
+use smap_map_files::say_of;
 use smap_system::{Disk, Host, Stop, printable};
 use std::alloc::{AllocError, Global};
 
@@ -79,6 +81,32 @@ fn say_unclear<E: Eprint + AllocGlobal, D: Disk>(
     )?;
     host.say(text.as_str());
     Ok(())
+}
+
+fn say_each<E: Eprint + AllocGlobal, D: Disk>(
+    host: &Host<'_, E, D>,
+    place: &Place,
+    sentences: &[String],
+) -> Result<(), Stop> {
+    for sentence in sentences {
+        let sentence = sentence.as_str();
+        let what = format!(in host.alloc(); ": {sentence}")?;
+        say_of(host, place, what.as_str())?;
+    }
+    Ok(())
+}
+
+/// Says why maps that the sources of a map lead to aren't followed; and which are, if what is chosen is told.
+pub(crate) fn tell_remarks<E: Eprint + AllocGlobal, D: Disk>(
+    host: &Host<'_, E, D>,
+    is_verbose: bool,
+    place: &Place,
+    remarks: &Remarks,
+) -> Result<(), Stop> {
+    if is_verbose {
+        say_each(host, place, &remarks.notes)?;
+    }
+    say_each(host, place, &remarks.faults)
 }
 
 impl<E: Eprint + AllocGlobal, D: Disk> Search<'_, E, D> {

@@ -1,3 +1,4 @@
+mod ComposingLemmas
 mod JoiningLemmas
 mod LookingLemmas
 mod RunLemmas

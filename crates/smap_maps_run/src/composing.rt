@@ -1,14 +1,13 @@
 //! `smap-maps compose`: each map composed with those that its sources lead to.
-ghost use Rattle.std.specs.Prelude.{◌≡◌, IfOk, IfSome, Ok, Some, cond, string_bytes, true};
+ghost use Rattle.std.specs.Prelude.{◌≡◌, IfOk, Ok, Some, cond, string_bytes, true};
 ghost use Rattle.smap_canon.specs.Canonical.{canonical_text_in};
 ghost use Rattle.smap_canon.specs.Layout.{form_asked};
-ghost use Rattle.smap_compose.specs.Composing.{Maps, composition};
 ghost use Rattle.smap_compose.specs.Thinning.{thinned};
 ghost use Rattle.smap_compose.specs.Using as using_of;
 ghost use Rattle.smap_record.specs.Record.{record_of, usual};
 ghost use Rattle.smap_record.specs.UrlBytes.{reading_within};
 ghost use Rattle.smap_maps_run.specs.Composing as spec;
-ghost use Rattle.smap_maps_run.specs.Composing.{IsComposedTo};
+ghost use Rattle.smap_maps_run.specs.Composing.{IsClosedOver, IsComposedTo};
 ghost use Rattle.smap_maps_run.specs.Looking.{IsFileOf};
 
 use crate::deciding::{Deed, Work, decided};
@@ -20,11 +19,11 @@ use crate::reporting::report;
 use crate::targets::{Target, targets_of};
 use crate::{Failure, Outcome, Verdict, unread};
 use smap_canon::canonical_in;
+use smap_chains::{ChainAsked, Closed, MoreMaps, Remarks, chain_of, close, remarks_of};
 use smap_command_line::maps::{MapsWords, Rewrite};
-use smap_compose::{ComposeError, compose_deep, only_used, thin};
-use smap_lint_run::{Chain, MoreMaps, chain_of, chain_remarks};
+use smap_compose::{only_used, thin};
 use smap_map_files::MapText;
-use smap_record::{Base, Limits, SourceMap};
+use smap_record::{Base, SourceMap};
 use smap_system::{Disk, Host, Stop, Watched};
 use std::alloc::{AllocError, Global};
 use std::io::Write;
@@ -47,9 +46,7 @@ struct Job<'a> {
 struct Composed {
     outcome: Outcome,
     /// What is said of its sources.
-    remarks: Vec<String>,
-    /// Whether all maps that are there were followed.
-    is_whole: bool,
+    remarks: Remarks,
 }
 
 /// A map without the mappings that change nothing, if that is asked for.
@@ -88,49 +85,12 @@ fn finished_text(
     }
 }
 
-/// The composition of a map with those of a chain with so many levels below the first; none where it would
-/// list too many sources or use too many names.
-fn followed(
-    alloc: Global,
-    map: &SourceMap,
-    chain: &Chain,
-    below: usize,
-) -> Result<Option<SourceMap>, AllocError>
-    ensures { IfOk result (λ o. IfSome o (λ m.
-        (maps : Maps) × (record_of m ≡ composition (record_of map.now) maps))) }
-{
-    let (numbers, maps, leads) = (&chain.numbers, &chain.maps, &chain.leads);
-    match compose_deep(alloc, map, numbers, maps, leads, below, Limits::usual()) {
-        Ok(map) => Ok(Some(map)),
-        Err(ComposeError::TooMany) => Ok(None),
-        Err(ComposeError::Memory) => Err(AllocError),
-    }
-}
-
-/// The text of a map that is composed with those of a chain.
-fn composed_text(
-    alloc: Global,
-    base: &Base,
-    map: &SourceMap,
-    chain: &Chain,
-    below: usize,
-    job: Job<'_>,
-) -> Result<Option<Vec<u8>>, AllocError>
-    ensures { IfOk result (λ o. IfSome o (λ text. (maps : Maps)
-        × (text.items ≡ canonical_text_in (form_asked true) base.now
-        (spec.finished job.entry.thin job.entry.used (composition (record_of map.now) maps))))) }
-{
-    match followed(alloc, map, chain, below)? {
-        Some(map) => Ok(Some(finished_text(alloc, base, map, job)?)),
-        None => Ok(None),
-    }
-}
-
 /// Gives the file of a map this text.
 fn rewritten<D: Disk>(case: &Case<'_, D>, file: &MapFile, text: &[u8]) -> Verdict
     requires file { IsFileOf (D.held case.now.disk.now) (string_bytes case.now.target.now.file)
         case.now.target.now.url.items file.now }
-    requires text { IsComposedTo file.now.base case.now.url_bytes file.now.bytes.items text.now }
+    requires text { IsComposedTo (D.held case.now.disk.now) file.now.base case.now.url_bytes
+        file.now.bytes.items text.now }
 {
     let path = case.target.file.as_str();
     match put(case.alloc, case.disk, path, file.stamp, text) {
@@ -143,7 +103,8 @@ fn rewritten<D: Disk>(case: &Case<'_, D>, file: &MapFile, text: &[u8]) -> Verdic
 fn changed<D: Disk>(case: &Case<'_, D>, file: &MapFile, rewrite: Rewrite, text: &[u8]) -> Outcome
     requires file { IsFileOf (D.held case.now.disk.now) (string_bytes case.now.target.now.file)
         case.now.target.now.url.items file.now }
-    requires text { IsComposedTo file.now.base case.now.url_bytes file.now.bytes.items text.now }
+    requires text { IsComposedTo (D.held case.now.disk.now) file.now.base case.now.url_bytes
+        file.now.bytes.items text.now }
 {
     let alloc = case.alloc;
     let shows = rewrite == Rewrite::Diff;
@@ -162,57 +123,36 @@ fn changed<D: Disk>(case: &Case<'_, D>, file: &MapFile, rewrite: Rewrite, text: 
     }
 }
 
-/// What becomes of a map with those of a chain, with so many levels below the first; none where the
-/// composition would list too much.
-fn followed_outcome<D: Disk>(
+/// What becomes of a map whose composition with those that its sources lead to is this.
+fn closed_outcome<D: Disk>(
     case: &Case<'_, D>,
     file: &MapFile,
     map: &SourceMap,
-    chain: &Chain,
-    below: usize,
+    closed: SourceMap,
     job: Job<'_>,
-) -> Result<Option<Outcome>, AllocError>
+) -> Result<Outcome, AllocError>
     requires file { IsFileOf (D.held case.now.disk.now) (string_bytes case.now.target.now.file)
         case.now.target.now.url.items file.now }
     requires reads { reading_within file.now.base usual case.now.url_bytes file.now.bytes.items
         ≡ Ok (Some map.now) }
+    requires closed { IsClosedOver (D.held case.now.disk.now) map.now closed }
 {
-    let text = composed_text(case.alloc, &file.base, map, chain, below, job)?;
-    let Some(text) = text else {
-        return Ok(None);
-    };
+    let text = finished_text(case.alloc, &file.base, closed, job)?;
     if text.as_slice() == file.bytes.as_slice() {
-        return Ok(Some(plain(case.alloc, Verdict::Unchanged)));
+        return Ok(plain(case.alloc, Verdict::Unchanged));
     }
-    Ok(Some(changed(case, file, job.rewrite, &text)))
+    Ok(changed(case, file, job.rewrite, &text))
 }
 
 /// A map of whose sources nothing is said.
 fn alone(alloc: Global, verdict: Verdict) -> Composed {
     Composed {
         outcome: plain(alloc, verdict),
-        remarks: Vec::new(alloc),
-        is_whole: true,
+        remarks: Remarks {
+            notes: Vec::new(alloc),
+            faults: Vec::new(alloc),
+        },
     }
-}
-
-/// The maps that its sources lead to.
-fn chain_for<D: Disk>(
-    case: &Case<'_, D>,
-    map: &SourceMap,
-    job: Job<'_>,
-) -> Result<Chain, AllocError> {
-    let target = case.target;
-    let script = target.script().as_bytes();
-    chain_of(
-        case.alloc,
-        case.disk,
-        target.home(),
-        script,
-        map,
-        job.more,
-        job.url_bytes,
-    )
 }
 
 /// What becomes of a map, whose file is this, with the maps of its sources.
@@ -228,18 +168,25 @@ fn with_chain<D: Disk>(
         ≡ Ok (Some map.now) }
 {
     let alloc = case.alloc;
-    let chain = chain_for(case, map, job)?;
-    let outcome = match chain.depth {
-        None | Some(0) => Some(plain(alloc, Verdict::Unchanged)),
-        Some(depth) => followed_outcome(case, file, map, &chain, depth.saturating_sub(1), job)?,
+    let asked = ChainAsked {
+        home: case.target.home(),
+        more: job.more,
+        url_bytes: job.url_bytes,
     };
-    let is_whole = chain.depth.is_some() && chain.refusals.is_empty() && outcome.is_some();
-    let remarks = chain_remarks(alloc, map, chain, outcome.is_none())?;
-    Ok(Composed {
-        outcome: outcome.unwrap_or_else(|| plain(alloc, Verdict::Unchanged)),
-        remarks,
-        is_whole,
-    })
+    let chain = chain_of(
+        alloc,
+        case.disk,
+        asked,
+        case.target.script().as_bytes(),
+        map,
+    )?;
+    let closed = close(alloc, map, &chain)?;
+    let remarks = remarks_of(alloc, map, chain, &closed)?;
+    let outcome = match closed {
+        Closed::Map(closed) => closed_outcome(case, file, map, closed, job)?,
+        Closed::Same | Closed::Endless | Closed::TooMuch => plain(alloc, Verdict::Unchanged),
+    };
+    Ok(Composed { outcome, remarks })
 }
 
 /// What becomes of a map that is looked at.
@@ -286,16 +233,12 @@ fn compose_map<E: Eprint + AllocGlobal, D: Disk, W: Write>(
         work,
         url_bytes: job.url_bytes,
     };
-    let Composed {
-        outcome,
-        remarks,
-        is_whole,
-    } = looked_at(&case, job);
-    for remark in &remarks {
+    let Composed { outcome, remarks } = looked_at(&case, job);
+    for remark in remarks.notes.iter().chain(&remarks.faults) {
         host.say_of(target.file.as_str(), remark.as_str());
     }
     report(host, work, target.file.as_str(), &outcome, writer)?;
-    let least = if is_whole { 0 } else { 1 };
+    let least = if remarks.faults.is_empty() { 0 } else { 1 };
     Ok(outcome.verdict.status().max(least))
 }
 

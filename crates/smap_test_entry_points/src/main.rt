@@ -1,5 +1,5 @@
-//! A program for tests, which scripts of `tests/` run on a text on its standard input. Its first word says
-//! what for:
+//! Tests of the other crates (`suite`), and a program that scripts of `tests/` run on a text on its standard
+//! input. Its first word says what for:
 //!
 //! - `ranges`: where the faults of maps are ([`ranges`]).
 //! - `functions`: the functions of texts ([`texts`]).
@@ -19,6 +19,8 @@ mod maps;
 mod ranges;
 mod repairs;
 mod runs;
+#[cfg(test)]
+mod suite;
 mod texts;
 mod traces;
 mod words;

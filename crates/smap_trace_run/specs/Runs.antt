@@ -128,6 +128,7 @@ pub record AreFound (told : Told) (held : Held) (asked : TraceWords) (wanted : W
   pub settled : IsSettled named wanted
   pub url_bytes : wanted.reading.url_bytes ≡ url_bytes asked.options
   pub mends : wanted.reading.mends ≡ not (has asked.options (codes "strict"))
+  pub chains : wanted.reading.chains ≡ not (has asked.options (codes "no-chain"))
   pub clear : AreClear wanted
 
 -- What is wanted was translated and written by a run that does what these words ask for, and came to its end

@@ -297,9 +297,12 @@ fn found<'a, E: Eprint + AllocGlobal, D: Disk>(
 {
     let mut wanted = wanted_by(host, &asked.arguments)?;
     settle(host, skips(&asked.options), &mut wanted)?;
+    let is_strict = asked.options.has("strict");
+    let is_closed = !asked.options.has("no-chain");
     wanted.reading = Reading {
         url_bytes: asked.options.url_bytes(),
-        mends: !asked.options.has("strict"),
+        mends: !is_strict,
+        chains: is_closed,
     };
     if wanted.is_empty() && !asked.options.has("list") {
         return Err(host.fail(

@@ -6,6 +6,7 @@ use crate::steps::{
     add_end, add_files, add_loaded, add_mapping, add_names, add_script, add_source, add_step,
     choice_words, is_past, shell_word,
 };
+use smap_chains::{Followed, follow};
 use smap_frames::push_position;
 use smap_logs::with_prefix;
 use smap_map_choice::Found;
@@ -168,6 +169,24 @@ fn add_position(
     }
 }
 
+/// Adds where the sources of a map lead, and answers the map that goes there.
+fn add_chain<D: Disk>(
+    alloc: Global,
+    disk: &D,
+    subject: &Subject<'_>,
+    map: SourceMap,
+    steps: &mut Vec<u8>,
+) -> Result<SourceMap, AllocError> {
+    let Followed { map, remarks } = follow(alloc, disk, subject, map)?;
+    for remark in &remarks.notes {
+        add_step(steps, "chain:   ", remark.as_str())?;
+    }
+    for remark in &remarks.faults {
+        add_step(steps, "chain:   ", remark.as_str())?;
+    }
+    Ok(map)
+}
+
 /// Adds how the map of a place is opened, and what that has for a position.
 fn add_map<E: Eprint + AllocGlobal, D: Disk>(
     host: &Host<'_, E, D>,
@@ -184,10 +203,14 @@ fn add_map<E: Eprint + AllocGlobal, D: Disk>(
     };
     add_loaded(alloc, &place, &loaded, steps)?;
     match loaded {
-        Loaded::Map(map) => Ok(add_position(alloc, question, spot, &read.ends, map, steps)?),
-        Loaded::Mended(map, _repairs) => Ok(add_position(
-            alloc, question, spot, &read.ends, map, steps,
-        )?),
+        Loaded::Map(map) => {
+            let map = add_chain(alloc, host.disk, subject, map, steps)?;
+            Ok(add_position(alloc, question, spot, &read.ends, map, steps)?)
+        }
+        Loaded::Mended(map, _repairs) => {
+            let map = add_chain(alloc, host.disk, subject, map, steps)?;
+            Ok(add_position(alloc, question, spot, &read.ends, map, steps)?)
+        }
         Loaded::Broken(_fault) => Ok(Ending::Stays(Stay::Refused)),
     }
 }

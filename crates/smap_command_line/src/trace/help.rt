@@ -25,6 +25,7 @@ Rewrites the stack traces in a log: positions in scripts become positions in the
   --hide-ignored  Leave out frames in ignored sources (libraries, mostly)
   --skip-broken   Leave out maps that smap refuses, naming each; the status is 0 then
   --strict        Stop where smap refuses a map. Of logs that are files nothing is translated then
+  --no-chain      Stop at the first source, also where that has a map of its own
   --check-all     Check every map, those too whose scripts the log doesn't name
   --list          List the scripts that the log names: how often, and whether each has a map
   --explain POSITION

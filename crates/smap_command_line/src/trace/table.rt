@@ -2,7 +2,7 @@
 use crate::rows::{FLAG, OptionOf, OptionRow, URL_BYTES, Value};
 
 /// The options, in the order in which the help lists them and values are looked at.
-pub const OPTIONS: [OptionRow; 15] = [
+pub const OPTIONS: [OptionRow; 16] = [
     OptionOf {
         name: "frames-only",
         help: "Translate only lines that are stack frames, with nothing around them",
@@ -29,6 +29,13 @@ pub const OPTIONS: [OptionRow; 15] = [
         name: "strict",
         help: "Stop where smap refuses a map. Of logs that are files nothing is translated then",
         details: "It outweighs --skip-broken.",
+        ..FLAG
+    },
+    OptionOf {
+        name: "no-chain",
+        help: "Stop at the first source, also where that has a map of its own",
+        details: "Without it, a source that names a map, in its text or its file, is looked up in that map, \
+                  and so on, as smap-maps compose does.",
         ..FLAG
     },
     OptionOf {

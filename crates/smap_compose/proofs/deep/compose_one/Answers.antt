@@ -1,9 +1,9 @@
-use Rattle.std.proofs.Common.{◌∙◌, add-one, ap, map, sym}
+use Rattle.std.proofs.Common.{◌∙◌, List, add-one, ap, map, sym}
 use Rattle.std.specs.Prelude.{option_map}
 use Rattle.std.proofs.lemmas.List.{map-id}
 use Rattle.std.proofs.lemmas.Result.{IfOk-weaker}
 use Rattle.smap_record.specs.Record.{ReadMap, record_of}
-use Rattle.smap_compose.specs.Deep.{composed}
+use Rattle.smap_compose.specs.Deep.{by_numbers, composed}
 use Rattle.smap_compose.specs.Numbered.{maps_of}
 use Rattle.smap_compose.proofs.ClosingLemmas.{same_composition}
 use Rattle.smap_compose.proofs.DeepLemmas.{agree_deep}
@@ -21,7 +21,10 @@ returns-clause-deep c =
     ∙ sym (ap (λ k. composed k find (record_of m)) (add-one n)))
     c.compose_by.ensures.record
 
-pub returns-clause-some : goal.returns-clause-some
-returns-clause-some c = IfOk-weaker c.compose_by.result _ _
-    (λ r h. (maps_of c.args.map.now (map (λ (x : ReadMap). x) c.args.inner.now) c.args.numbers.now, h))
+pub returns-clause-numbers : goal.returns-clause-numbers
+returns-clause-numbers c =
+    let m = c.args.map.now in
+    let numbers = c.args.numbers.now in
+    IfOk-weaker c.compose_by.result _ _ (λ r h.
+    h ∙ ap (λ (inner : List ReadMap). by_numbers m numbers (map record_of inner)) (map-id c.args.inner.now))
     c.compose_by.ensures.record

@@ -18,6 +18,7 @@ returns g c =
         positions = settled.positions;
       };
       url_bytes = c.url_bytes.ensures;
-      mends = grind (arith, c.has.ensures);
+      mends = grind (arith, c.has-is_strict.ensures);
+      chains = grind (arith, c.has-is_closed.ensures);
       clear = c.in_ok-check_lines.ensures;
     }

@@ -1,0 +1,3 @@
+pub mod ClosingLemmas
+pub mod SearchLemmas
+pub mod WayLemmas

@@ -1,0 +1,4 @@
+pub mod Chains
+pub mod Closing
+pub mod Search
+pub mod SourceMaps
