@@ -1,13 +1,12 @@
 """Times logs by many maps: the store of the Python module, smap-trace, GNU parallel and a cluster.
 
     python3 bench/scale.py crates/smap/out/smap LIB
-    python3 bench/scale.py crates/smap/out/smap LIB --into docs/SCALE.md
 
-LIB is the folder that tools/build-capi made. Prints two tables, and with --into puts them between the two
-lines of that file that hold `figures of scale.py`. The first is of one process by the number of maps that the
-log names, in processor time; the second of several by their number, in time as it passes. All lines of the
-logs are frames, at random positions. What needs a tool that isn't at hand (parallel, dask.distributed) is a
-gap in its table. Takes about 1 GB of disk and 4 GB of memory. Let nothing else run meanwhile.
+LIB is the folder that tools/build-capi made. Prints two tables. The first is of one process by the number of
+maps that the log names, in processor time; the second of several by their number, in time as it passes. All
+lines of the logs are frames, at random positions. What needs a tool that isn't at hand (parallel,
+dask.distributed) is a gap in its table. Takes about 1 GB of disk and 4 GB of memory. Let nothing else run
+meanwhile.
 """
 
 import argparse
@@ -25,7 +24,6 @@ import time
 from pathlib import Path
 
 import make_map
-from measure import put_into
 
 TOP = Path(__file__).resolve().parent.parent
 URL = "http://h/m/"
@@ -217,7 +215,6 @@ def main():
     parser = argparse.ArgumentParser(description=__doc__, formatter_class=layout)
     parser.add_argument("program", type=Path)
     parser.add_argument("lib", type=Path)
-    parser.add_argument("--into", help="a file to put the tables into")
     parser.add_argument("--maps", type=int, nargs="+", default=[1, 10, 100, 1000])
     parser.add_argument("--workers", type=int, nargs="+", default=[1, 2, 4])
     parser.add_argument("--lines", type=int, default=500_000, help="of the log of the first table")
@@ -231,10 +228,8 @@ def main():
         temp = Path(folder)
         put_on_path(words.program, temp)
         dist = make_maps(temp, max(words.maps), words.segments)
-        text = table_of_maps(temp, dist, words, (temp / "map").stat().st_size)
-        text += "\n" + table_of_workers(temp, dist, words)
-    if words.into:
-        put_into(words.into, "figures of scale.py", text)
+        table_of_maps(temp, dist, words, (temp / "map").stat().st_size)
+        table_of_workers(temp, dist, words)
 
 
 main()

@@ -91,8 +91,8 @@ class Store:
     `map_bytes` bytes is broken, and so is one whose sources have more than `url_bytes` bytes of URLs together,
     as those of a short text may.
 
-    Unless `chains` is False, a map is composed with those that its sources lead to, at up to 16 levels, as
-    docs/CHAINS.md has it: positions are those in the last sources. A source is looked at as a script of the
+    Unless `chains` is False, a map is composed with those that its sources lead to, at up to 16 levels:
+    positions are those in the last sources. A source is looked at as a script of the
     same folder; where the finder is a function, that is none, so that it has to hold its map itself. Inner
     maps are closed once they are composed. Each may have `map_bytes` bytes, and the URLs of all their sources
     take `url_bytes`. A source that can't be followed stays as it is: `unfollowed` says why.
